@@ -1,0 +1,5 @@
+-- Laws that several chapters cite, a file for each topic.
+pub mod Lines
+pub mod Padded
+pub mod Rows
+pub mod Stores

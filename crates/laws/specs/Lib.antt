@@ -1,0 +1,5 @@
+-- What several chapters of document 01 share.
+pub mod Bounded
+pub mod Lines
+pub mod Padded
+pub mod Rows

@@ -1,0 +1,116 @@
+-- The table's rule, carried from one computed test to each row, and what it says of a good shape.
+use mathlib.Core.Path.{_≡_, refl, ap, subst, sym, _∙_}
+use mathlib.Core.Bool.{Bool, true, false, cond, _&&_, false≢true}
+use mathlib.Core.List.{List, [], _∷_}
+use Prim.Native.Nat.{ℕ, zero, suc, _<_, _≤_}
+use native.Mathlib.Omega.{arith}
+use mathlib.Core.Logic.{⊎-elim}
+use lib.Dec.{leb, ltb, eqb}
+use lib.ListN.{getD}
+use borrow.Author.Tests.{ltb-true, ltb-false, leb-true, leb-false, eqb-true, lt-ltb, le-ltb, lt-leb, ne-eqb}
+use Rattle.laws.specs.Lines.{allHold}
+use Rattle.laws.specs.Rows.{every}
+use Rattle.laws.proofs.Rows.{at-row}
+use Rattle.laws.proofs.Lines.{and-left, and-right, hold-at}
+use Rattle.messages.specs.Layout.{ack}
+use Rattle.messages.specs.Table.{rows, noRow, rowOf, leastObjects, mostObjects, svidFits, fitLines, fits, shape, ruleLines, rowRule}
+use Rattle.messages.specs.declared.Head.{Head}
+use Rattle.messages.specs.declared.table.Row.{Row}
+use Rattle.messages.proofs.Rows.{row-shared, most-none}
+
+-- the one test
+rows-rule : every rowRule 0 rows ≡ true
+rows-rule = refl
+
+shared-rule : (command : ℕ) → 7 ≤ command → rowRule command (getD rows 0 noRow) ≡ true
+shared-rule command h =
+    let six : eqb command 6 ≡ false = ne-eqb command 6 (λ e. omega arith) in
+    let five : leb command 5 ≡ false = lt-leb command 5 (omega arith) in
+    go (eqb command 6) (leb 1 command) (leb command 5) six five
+  where
+    go : (a b c : Bool) → a ≡ false → c ≡ false →
+        allHold (eqb 1 (cond a 0 1) ∷ eqb 0 (cond (b && c) 1 0) ∷ true ∷ true ∷ true ∷ true ∷ []) ≡ true
+    go true b c e f = absurd (false≢true (sym e))
+    go false true true e f = absurd (false≢true (sym f))
+    go false true false e f = refl
+    go false false c e f = refl
+
+pub row-rule : (command : ℕ) → rowRule command (rowOf command) ≡ true
+unfolding rowOf
+row-rule command = go (ltb command 7) refl
+  where
+    go : (t : Bool) → ltb command 7 ≡ t → rowRule command (getD rows (cond t command 0) noRow) ≡ true
+    go true e = at-row rowRule noRow rows rows-rule command (ltb-true command 7 e)
+    go false e = shared-rule command (ltb-false command 7 e)
+
+-- line k of the rule
+rule-line : (command k : ℕ) → getD (ruleLines command (rowOf command)) k true ≡ true
+rule-line command k = hold-at (ruleLines command (rowOf command)) (row-rule command) k
+
+pub row-nak : (command : ℕ) → rowOf command .nak ≡ cond (eqb command 6) 0 1
+row-nak command = eqb-true _ _ (rule-line command 0)
+
+pub row-busy : (command : ℕ) → rowOf command .busy ≡ cond (leb 1 command && leb command 5) 1 0
+row-busy command = eqb-true _ _ (rule-line command 1)
+
+row-last : (command : ℕ) → rowOf command .last ≤ 7
+row-last command = leb-true _ _ (rule-line command 5)
+
+-- the object counts of a row, by type
+row-least : (command kind : ℕ) → 1 ≤ leastObjects (rowOf command) kind
+unfolding leastObjects
+row-least command kind = go (eqb kind ack)
+  where
+    go : (t : Bool) → 1 ≤ cond t (rowOf command .least) 1
+    go true = leb-true _ _ (rule-line command 2)
+    go false = omega arith
+
+row-most : (command kind : ℕ) → mostObjects (rowOf command) kind ≤ 7
+unfolding mostObjects
+row-most command zero = leb-true _ _ (rule-line command 3)
+row-most command (suc zero) = leb-true _ _ (rule-line command 4)
+row-most command (suc (suc zero)) = go (eqb command 6) (row-nak command)
+  where
+    go : (t : Bool) → rowOf command .nak ≡ cond t 0 1 → rowOf command .nak ≤ 7
+    go true e = omega arith
+    go false e = omega arith
+row-most command (suc (suc (suc zero))) = go (leb 1 command && leb command 5) (row-busy command)
+  where
+    go : (t : Bool) → rowOf command .busy ≡ cond t 1 0 → rowOf command .busy ≤ 7
+    go true e = omega arith
+    go false e = omega arith
+row-most command (suc (suc (suc (suc kind)))) = omega arith
+
+-- what a good shape says
+module _ (h : Head) (count : ℕ) (good : shape h count ≡ true) where
+  pub shape-command : h .command < 32
+  unfolding shape
+  shape-command = ltb-true _ _ (and-left (ltb (h .command) 32) _ good)
+
+  shape-line : (k : ℕ) → getD (fitLines (rowOf (h .command)) h count) k true ≡ true
+  unfolding shape fits
+  shape-line k = hold-at (fitLines (rowOf (h .command)) h count) (and-right (ltb (h .command) 32) _ good) k
+
+  shape-least : leastObjects (rowOf (h .command)) (h .kind) ≤ count
+  shape-least = leb-true _ _ (shape-line 0)
+
+  shape-most : count ≤ mostObjects (rowOf (h .command)) (h .kind)
+  shape-most = leb-true _ _ (shape-line 1)
+
+  shape-last : h .position ≤ rowOf (h .command) .last
+  shape-last = leb-true _ _ (shape-line 3)
+
+  pub shape-position : h .position < 8
+  shape-position = omega (arith, shape-last, row-last (h .command))
+
+  pub shape-count : (1 ≤ count) × (count ≤ 7)
+  shape-count =
+      (omega (arith, shape-least, row-least (h .command) (h .kind)),
+      omega (arith, shape-most, row-most (h .command) (h .kind)))
+
+  pub shape-kind : h .kind < 4
+  shape-kind = go (ltb (h .kind) 4) refl
+    where
+      go : (t : Bool) → ltb (h .kind) 4 ≡ t → h .kind < 4
+      go true e = ltb-true _ _ e
+      go false e = absurd (omega (arith, shape-count .0, shape-most, most-none (rowOf (h .command)) (h .kind) (ltb-false _ _ e)))

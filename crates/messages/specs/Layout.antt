@@ -1,0 +1,66 @@
+-- A message's bytes, objects and header (01, "Message layout").
+use Prim.Native.Nat.{ℕ, _+_, _*_, _-_, _/_, _%_, _^_}
+use mathlib.Core.List.{List, [], _∷_, _++_}
+use Rattle.messages.specs.declared.Head.{Head}
+
+-- an object, least significant byte first
+abbrev pub objectOf : ℕ → ℕ → ℕ → ℕ → ℕ
+objectOf a b c d = a + b * 256 + c * 65536 + d * 16777216
+
+unfoldable pub bytesOfObject : ℕ → List ℕ
+bytesOfObject w = w % 256 ∷ w / 256 % 256 ∷ w / 65536 % 256 ∷ w / 16777216 % 256 ∷ []
+
+-- the whole objects of a run of bytes
+unfoldable pub objectsOf : List ℕ → List ℕ
+objectsOf [] = []
+objectsOf (a ∷ []) = []
+objectsOf (a ∷ b ∷ []) = []
+objectsOf (a ∷ b ∷ c ∷ []) = []
+objectsOf (a ∷ b ∷ c ∷ d ∷ rest) = objectOf a b c d ∷ objectsOf rest
+
+unfoldable pub bytesOf : List ℕ → List ℕ
+bytesOf [] = []
+bytesOf (w ∷ ws) = bytesOfObject w ++ bytesOf ws
+
+-- bits high..low of an object
+abbrev pub bits : ℕ → ℕ → ℕ → ℕ
+bits high low w = w / 2 ^ low % 2 ^ (high - low + 1)
+
+-- the types
+abbrev pub req : ℕ
+req = 0
+
+abbrev pub ack : ℕ
+ack = 1
+
+abbrev pub nak : ℕ
+nak = 2
+
+abbrev pub busy : ℕ
+busy = 3
+
+-- what the VDM header says
+abbrev pub structured : ℕ → ℕ
+structured w = bits 15 15 w
+
+abbrev pub major : ℕ → ℕ
+major w = bits 14 13 w
+
+abbrev pub reserved : ℕ → ℕ
+reserved w = bits 5 5 w
+
+unfoldable pub headOf : ℕ → Head
+headOf w = record { svid = bits 31 16 w; command = bits 4 0 w; kind = bits 7 6 w; position = bits 10 8 w }
+
+-- the header that we send: structured, major 1, minor 0, the reserved bit 0
+unfoldable pub headerOf : Head → ℕ
+headerOf h = h .svid * 2 ^ 16 + 1 * 2 ^ 15 + 1 * 2 ^ 13 + 0 * 2 ^ 11 + h .position * 2 ^ 8 + h .kind * 2 ^ 6 + h .command
+
+-- a message: its head, and the objects after the header
+pub record Message : Type 0 where
+  pub head : Head
+  pub objects : List ℕ
+
+-- a message's bytes as we send it
+unfoldable pub messageBytes : Message → List ℕ
+messageBytes m = bytesOf (headerOf (m .head) ∷ m .objects)

@@ -1,0 +1,59 @@
+-- Reading a message: refusals 1 to 5 in their order, or the message (01, "Message layout" and "Refusal numbers").
+use Prim.Native.Nat.{ℕ, _/_, _%_}
+use mathlib.Core.Bool.{Bool, cond, not, _&&_}
+use mathlib.Core.List.{List, [], _∷_}
+use lib.Dec.{leb, eqb}
+use lib.ListN.{length, getD, drop, replicate}
+use Rattle.laws.specs.Lines.{firstLine}
+use Rattle.laws.specs.Padded.{padded}
+use Rattle.messages.specs.Layout.{objectsOf, structured, major, reserved, headOf, Message}
+use Rattle.messages.specs.Table.{shape}
+use Rattle.messages.specs.declared.Head.{Head}
+use Rattle.messages.specs.declared.Reading.{Reading}
+use Rattle.messages.specs.declared.Answer.the-variants.{Refused}
+use Rattle.messages.specs.declared.Answer.the-variants.{Message as Answer·Message}
+
+-- bytes are not 4, 8, .. 28
+abbrev pub wrongLength : ℕ → Bool
+wrongLength n = not (leb 4 n && (leb n 28 && eqb (n % 4) 0))
+
+-- the four lines on the header, with the number of objects
+abbrev pub headerLines : ℕ → ℕ → List Bool
+headerLines header count =
+    eqb (structured header) 0 ∷
+    leb 2 (major header) ∷
+    eqb (reserved header) 1 ∷
+    not (shape (headOf header) count) ∷ []
+
+-- object 1
+abbrev pub headerIn : List ℕ → ℕ
+headerIn b = getD (objectsOf b) 0 0
+
+-- the five lines, 1 to 5
+abbrev pub readLines : List ℕ → List Bool
+readLines b = wrongLength (length b) ∷ headerLines (headerIn b) (length b / 4)
+
+unfoldable pub readRefusal : List ℕ → ℕ
+readRefusal b = firstLine 1 (readLines b)
+
+unfoldable pub messageIn : List ℕ → Message
+messageIn b = record { head = headOf (headerIn b); objects = drop 1 (objectsOf b) }
+
+pub data Outcome : Type 0 where
+  accepted : Message → Outcome
+  refused : ℕ → Outcome
+
+unfoldable pub outcome : ℕ → Message → Outcome
+outcome number m = cond (eqb number 0) (accepted m) (refused number)
+
+unfoldable pub readOutcome : List ℕ → Outcome
+readOutcome b = outcome (readRefusal b) (messageIn b)
+
+-- objects 2 to 7 of a run of bytes, with 0 for one that is not there
+abbrev pub objectsIn : List ℕ → List ℕ
+objectsIn b = padded (drop 1 (objectsOf b))
+
+-- how the code's answer shows an outcome: 01's number, or its values
+unfoldable pub shown : Outcome → Reading
+shown (accepted m) = record { answer = Answer·Message (m .head) (length (m .objects)); objects = padded (m .objects) }
+shown (refused number) = record { answer = Refused number; objects = replicate 6 0 }

@@ -1,0 +1,38 @@
+// Structured VDMs of USB Power Delivery, read from bytes and written as bytes: document 01, "Message layout".
+mod from_bytes;
+mod object;
+mod table;
+mod to_bytes;
+
+pub use from_bytes::read;
+pub use to_bytes::write;
+
+// What a VDM header says, its version left out. 01's types are numbers here: REQ, ACK, NAK, BUSY.
+pub struct Head {
+    pub svid: u16,
+    pub command: u8,
+    pub kind: u8,
+    pub position: u8,
+}
+
+pub const REQ: u8 = 0;
+
+pub const ACK: u8 = 1;
+
+pub const NAK: u8 = 2;
+
+pub const BUSY: u8 = 3;
+
+pub const PD_SID: u16 = 0xFF00;
+
+// A message's head and the number of objects after the header, or a refusal number.
+pub enum Answer {
+    Message(Head, u8),
+    Refused(u8),
+}
+
+// What reading gives: the objects after the header stand first among the six words, and zeros behind them.
+pub struct Reading {
+    pub answer: Answer,
+    pub objects: [u32; 6],
+}

@@ -1,4 +1,5 @@
 -- Laws that several chapters cite, a file for each topic.
+pub mod Fields
 pub mod Lines
 pub mod Padded
 pub mod Rows

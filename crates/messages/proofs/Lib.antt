@@ -1,6 +1,9 @@
 -- Laws on the definitions of specs/, a file for each topic.
+pub mod Header
+pub mod Laws
 pub mod Objects
 pub mod Refusals
+pub mod RoundTrip
 pub mod Rows
 pub mod Rule
 pub mod Stores

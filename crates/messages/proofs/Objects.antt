@@ -2,11 +2,12 @@
 use mathlib.Core.Path.{_≡_, refl, ap, ap₂, sym, _∙_}
 use mathlib.Core.List.{List, [], _∷_, _++_}
 use Prim.Native.Nat.{ℕ, zero, suc, _+_, _*_, _/_, _%_, _^_, _<_, _≤_}
-use native.Mathlib.Nat.{div-div-eq-div-mul, div-eq-of-lt-le, mod-eq-of-lt}
+use native.Mathlib.Nat.{div-one, div-div-eq-div-mul, mod-eq-of-lt}
 use native.Mathlib.Omega.{arith}
 use lib.ListN.{length, getD, length-append}
 use Rattle.laws.specs.Bounded.{Below}
-use Rattle.messages.specs.Layout.{objectOf, bytesOfObject, objectsOf, bytesOf}
+use Rattle.laws.proofs.Fields.{field}
+use Rattle.messages.specs.Layout.{bits, objectOf, bytesOfObject, objectsOf, bytesOf}
 
 pub object-at : (b : List ℕ) (i : ℕ) → i * 4 + 4 ≤ length b →
     getD (objectsOf b) i 0 ≡ objectOf (getD b (i * 4) 0) (getD b (i * 4 + 1) 0) (getD b (i * 4 + 2) 0) (getD b (i * 4 + 3) 0)
@@ -32,12 +33,13 @@ object-past (p ∷ q ∷ r ∷ []) i h = refl
 object-past (p ∷ q ∷ r ∷ s ∷ rest) zero h = absurd (omega arith)
 object-past (p ∷ q ∷ r ∷ s ∷ rest) (suc i) h = object-past rest i (omega arith)
 
-bytes-object : (w : ℕ) → w < 2 ^ 32 → objectOf (w % 256) (w / 256 % 256) (w / 65536 % 256) (w / 16777216 % 256) ≡ w
+bytes-object : (w : ℕ) → w < 2 ^ 32 → objectOf (bits 7 0 w) (bits 15 8 w) (bits 23 16 w) (bits 31 24 w) ≡ w
 bytes-object w h =
+    let d1 : w / 1 ≡ w = div-one w in
     let d2 : w / 256 / 256 ≡ w / 65536 = div-div-eq-div-mul w 256 256 in
     let d3 : w / 65536 / 256 ≡ w / 16777216 = div-div-eq-div-mul w 65536 256 in
     let e3 : w / 16777216 % 256 ≡ w / 16777216 = mod-eq-of-lt (omega arith) in
-    omega arith
+    rw d1 (omega arith)
 
 -- objects, written as bytes and read again
 pub objects-bytes : (ws : List ℕ) → Below (2 ^ 32) ws → objectsOf (bytesOf ws) ≡ ws
@@ -45,19 +47,14 @@ unfolding objectsOf bytesOf bytesOfObject
 objects-bytes [] h = refl
 objects-bytes (w ∷ ws) h = ap₂ (λ (v : ℕ) (vs : List ℕ). v ∷ vs) (bytes-object w (h zero)) (objects-bytes ws (λ k. h (suc k)))
 
-object-bytes : (p q r s : ℕ) → p < 256 → q < 256 → r < 256 → s < 256 → bytesOfObject (objectOf p q r s) ≡ p ∷ q ∷ r ∷ s ∷ []
+pub object-bytes : (p q r s : ℕ) → p < 256 → q < 256 → r < 256 → s < 256 → bytesOfObject (objectOf p q r s) ≡ p ∷ q ∷ r ∷ s ∷ []
 unfolding bytesOfObject
 object-bytes p q r s hp hq hr hs =
     let w : ℕ = objectOf p q r s in
-    let d1 : w / 256 ≡ q + r * 256 + s * 65536 = div-eq-of-lt-le 256 (omega arith) (omega arith) in
-    let d2 : w / 65536 ≡ r + s * 256 = div-eq-of-lt-le 65536 (omega arith) (omega arith) in
-    let d3 : w / 16777216 ≡ s = div-eq-of-lt-le 16777216 (omega arith) (omega arith) in
-    let e0 : w % 256 ≡ p = omega arith in
-    let q2 : w / 256 / 256 ≡ w / 65536 = div-div-eq-div-mul w 256 256 in
-    let q3 : w / 65536 / 256 ≡ w / 16777216 = div-div-eq-div-mul w 65536 256 in
-    let e1 : w / 256 % 256 ≡ q = omega arith in
-    let e2 : w / 65536 % 256 ≡ r = omega arith in
-    let e3 : w / 16777216 % 256 ≡ s = rw d3 (mod-eq-of-lt hs) in
+    let e0 : bits 7 0 w ≡ p = field w 1 256 (q + r * 256 + s * 65536) p 0 (omega arith) (omega arith) hp in
+    let e1 : bits 15 8 w ≡ q = field w 256 256 (r + s * 256) q p (omega arith) hp hq in
+    let e2 : bits 23 16 w ≡ r = field w 65536 256 s r (p + q * 256) (omega arith) (omega arith) hr in
+    let e3 : bits 31 24 w ≡ s = field w 16777216 256 0 s (p + q * 256 + r * 65536) (omega arith) (omega arith) hs in
     rw (e0, e1, e2, e3)
 
 -- whole bytes, read as objects and written again

@@ -60,7 +60,7 @@ objects-in b p q r s t u ep eq er es et eu = rw (ep, eq, er, es, et, eu) (go (ob
     go [] = refl
     go (x ∷ l) = padded-at l
 
-right-length : (n : ℕ) → 4 ≤ n → n ≤ 28 → n % 4 ≡ 0 → wrongLength n ≡ false
+pub right-length : (n : ℕ) → 4 ≤ n → n ≤ 28 → n % 4 ≡ 0 → wrongLength n ≡ false
 right-length n l m e = simp (le-leb _ _ l, le-leb _ _ m, eq-eqb _ _ e)
 
 pub short : (n : ℕ) → n < 4 → wrongLength n ≡ true
@@ -79,6 +79,14 @@ read-refused b number h e = rw (e, ne-eqb _ _ h)
 pub read-accepted : (b : List ℕ) → readRefusal b ≡ 0 → readOutcome b ≡ accepted (messageIn b)
 unfolding readOutcome outcome
 read-accepted b e = rw e
+
+pub outcome-refused : (b : List ℕ) (number : ℕ) → readOutcome b ≡ refused number → readRefusal b ≡ number
+unfolding readOutcome outcome
+outcome-refused b number = go (eqb (readRefusal b) 0)
+  where
+    go : (t : Bool) → cond t (accepted (messageIn b)) (refused (readRefusal b)) ≡ refused number → readRefusal b ≡ number
+    go true e = absurd (let o : _≡_ {A = ℕ} 0 1 = cc in omega arith)
+    go false e = cc
 
 pub refusal-1 : (b : List ℕ) → wrongLength (length b) ≡ true → readRefusal b ≡ 1
 unfolding readRefusal

@@ -1,14 +1,20 @@
 -- A message's bytes, objects and header (01, "Message layout").
-use Prim.Native.Nat.{ℕ, _+_, _*_, _-_, _/_, _%_, _^_}
+use Prim.Native.Nat.{ℕ, _+_, _*_, _-_, _/_, _%_, _^_, _<_}
 use mathlib.Core.List.{List, [], _∷_, _++_}
+use lib.ListN.{getD, set}
+use Rattle.laws.specs.Bounded.{Below}
 use Rattle.messages.specs.declared.Head.{Head}
+
+-- bits high..low of an object
+abbrev pub bits : ℕ → ℕ → ℕ → ℕ
+bits high low w = w / 2 ^ low % 2 ^ (high - low + 1)
 
 -- an object, least significant byte first
 abbrev pub objectOf : ℕ → ℕ → ℕ → ℕ → ℕ
-objectOf a b c d = a + b * 256 + c * 65536 + d * 16777216
+objectOf a b c d = a + b * 2 ^ 8 + c * 2 ^ 16 + d * 2 ^ 24
 
 unfoldable pub bytesOfObject : ℕ → List ℕ
-bytesOfObject w = w % 256 ∷ w / 256 % 256 ∷ w / 65536 % 256 ∷ w / 16777216 % 256 ∷ []
+bytesOfObject w = bits 7 0 w ∷ bits 15 8 w ∷ bits 23 16 w ∷ bits 31 24 w ∷ []
 
 -- the whole objects of a run of bytes
 unfoldable pub objectsOf : List ℕ → List ℕ
@@ -21,10 +27,6 @@ objectsOf (a ∷ b ∷ c ∷ d ∷ rest) = objectOf a b c d ∷ objectsOf rest
 unfoldable pub bytesOf : List ℕ → List ℕ
 bytesOf [] = []
 bytesOf (w ∷ ws) = bytesOfObject w ++ bytesOf ws
-
--- bits high..low of an object
-abbrev pub bits : ℕ → ℕ → ℕ → ℕ
-bits high low w = w / 2 ^ low % 2 ^ (high - low + 1)
 
 -- the types
 abbrev pub req : ℕ
@@ -61,6 +63,15 @@ pub record Message : Type 0 where
   pub head : Head
   pub objects : List ℕ
 
+-- its numbers are as wide as the layout has them; that the others fit their fields is part of the shape
+pub record Representable (m : Message) : Type 0 where
+  pub svid-fits : m .head .svid < 2 ^ 16
+  pub objects-fit : Below (2 ^ 32) (m .objects)
+
 -- a message's bytes as we send it
 unfoldable pub messageBytes : Message → List ℕ
 messageBytes m = bytesOf (headerOf (m .head) ∷ m .objects)
+
+-- the same bytes with our version in the header: byte 1 has bit 15, major, minor and position
+unfoldable pub withOurVersion : List ℕ → List ℕ
+withOurVersion b = set b 1 (bits 7 7 (getD b 1 0) * 2 ^ 7 + 1 * 2 ^ 5 + 0 * 2 ^ 3 + bits 2 0 (getD b 1 0))

@@ -3,13 +3,14 @@ use Prim.Native.Nat.{ℕ, _/_, _%_}
 use mathlib.Core.Bool.{Bool, cond, not, _&&_}
 use mathlib.Core.List.{List, [], _∷_}
 use lib.Dec.{leb, eqb}
-use lib.ListN.{length, getD, drop, replicate}
+use lib.ListN.{length, getD, take, drop, replicate}
 use Rattle.laws.specs.Lines.{firstLine}
 use Rattle.laws.specs.Padded.{padded}
 use Rattle.messages.specs.Layout.{objectsOf, structured, major, reserved, headOf, Message}
 use Rattle.messages.specs.Table.{shape}
 use Rattle.messages.specs.declared.Head.{Head}
 use Rattle.messages.specs.declared.Reading.{Reading}
+use Rattle.messages.specs.declared.Answer.{Answer}
 use Rattle.messages.specs.declared.Answer.the-variants.{Refused}
 use Rattle.messages.specs.declared.Answer.the-variants.{Message as Answer·Message}
 
@@ -17,19 +18,32 @@ use Rattle.messages.specs.declared.Answer.the-variants.{Message as Answe
 abbrev pub wrongLength : ℕ → Bool
 wrongLength n = not (leb 4 n && (leb n 28 && eqb (n % 4) 0))
 
--- the four lines on the header, with the number of objects
+-- bit 15 is 0
+abbrev pub unstructured : ℕ → Bool
+unstructured header = eqb (structured header) 0
+
+-- major is 2 or 3
+abbrev pub wrongMajor : ℕ → Bool
+wrongMajor header = leb 2 (major header)
+
+-- bit 5 is 1
+abbrev pub reservedSet : ℕ → Bool
+reservedSet header = eqb (reserved header) 1
+
+-- wrong shape by the table
+abbrev pub wrongShape : ℕ → ℕ → Bool
+wrongShape header count = not (shape (headOf header) count)
+
+-- lines 2 to 5, by the header and the number of objects
 abbrev pub headerLines : ℕ → ℕ → List Bool
 headerLines header count =
-    eqb (structured header) 0 ∷
-    leb 2 (major header) ∷
-    eqb (reserved header) 1 ∷
-    not (shape (headOf header) count) ∷ []
+    unstructured header ∷ wrongMajor header ∷ reservedSet header ∷ wrongShape header count ∷ []
 
 -- object 1
 abbrev pub headerIn : List ℕ → ℕ
 headerIn b = getD (objectsOf b) 0 0
 
--- the five lines, 1 to 5
+-- lines 1 to 5
 abbrev pub readLines : List ℕ → List Bool
 readLines b = wrongLength (length b) ∷ headerLines (headerIn b) (length b / 4)
 
@@ -53,7 +67,11 @@ readOutcome b = outcome (readRefusal b) (messageIn b)
 abbrev pub objectsIn : List ℕ → List ℕ
 objectsIn b = padded (drop 1 (objectsOf b))
 
--- how the code's answer shows an outcome: 01's number, or its values
+-- how the code's answer shows an outcome, and what an answer tells: 01's number, or its values
 unfoldable pub shown : Outcome → Reading
 shown (accepted m) = record { answer = Answer·Message (m .head) (length (m .objects)); objects = padded (m .objects) }
 shown (refused number) = record { answer = Refused number; objects = replicate 6 0 }
+
+abbrev pub told : Answer → List ℕ → Outcome
+told (Answer·Message h count) objects = accepted (record { head = h; objects = take count objects })
+told (Refused number) objects = refused number

@@ -72,15 +72,27 @@ fits r h count = allHold (fitLines r h count)
 unfoldable pub shape : Head → ℕ → Bool
 shape h count = ltb (h .command) 32 && fits (rowOf (h .command)) h count
 
--- what every row keeps, by its command: NAK has 1 object for all commands but 6, BUSY for 1 to 5, a message has 1 to 7 objects, and a
--- position fits three bits
+abbrev pub oneToFive : ℕ → Bool
+oneToFive command = leb 1 command && leb command 5
+
+-- the pairs of command and type that there are: REQ of each, ACK and BUSY of 1 to 5, NAK of all but 6
+abbrev pub allowed : ℕ → ℕ → Bool
+allowed command kind =
+    ltb command 32 && getD (true ∷ oneToFive command ∷ not (eqb command 6) ∷ oneToFive command ∷ []) kind false
+
+-- a head that the row of a command lets through, where the pair is allowed
+abbrev pub firstHead : ℕ → ℕ → Head
+firstHead command kind = record { svid = pdSid; command = command; kind = kind; position = rowOf command .first }
+
+-- what every row keeps, by its command: an ACK is of 1 to 5 and has an object at least, a NAK has 1 object for all commands but 6, a BUSY
+-- for 1 to 5, no message has more than 7 objects, and a position fits three bits
 abbrev pub ruleLines : ℕ → Row → List Bool
 ruleLines command r =
-    eqb (r .nak) (cond (eqb command 6) 0 1) ∷
-    eqb (r .busy) (cond (leb 1 command && leb command 5) 1 0) ∷
-    leb 1 (r .least) ∷
     leb (r .request) 7 ∷
-    leb (r .most) 7 ∷
+    leb 1 (r .least) ∷
+    leb (r .most) (cond (oneToFive command) 7 0) ∷
+    eqb (r .nak) (cond (eqb command 6) 0 1) ∷
+    eqb (r .busy) (cond (oneToFive command) 1 0) ∷
     leb (r .last) 7 ∷ []
 
 abbrev pub rowRule : ℕ → Row → Bool

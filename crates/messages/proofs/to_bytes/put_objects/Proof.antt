@@ -42,7 +42,7 @@ shared-slice-read-put-object c = omega arith
 
 -- src/to_bytes.rt:41:9
 put-object-requires : tie.Need-put-object-requires Inv-loop μ-loop
-put-object-requires c κs =     let kept = length-stored (c .before .before .before .before .before .before .args .out .now) (c .before .before .before .loop .out) (bytesOf (take (c .before .before .before .loop .i) (c .before .before .before .before .before .before .args .objects .now))) 4 (c .before .before .before .loop .inv .1) in
+put-object-requires c κs = let kept = length-stored (c .before .before .before .before .before .before .args .out .now) (c .before .before .before .loop .out) (bytesOf (take (c .before .before .before .loop .i) (c .before .before .before .before .before .before .args .objects .now))) 4 (c .before .before .before .loop .inv .1) in
     omega (arith, kept)
 
 -- src/to_bytes.rt:42:9
@@ -55,16 +55,18 @@ loop-less c = omega arith
 
 -- src/to_bytes.rt:40:5
 loop-again : tie.Need-loop-again Inv-loop μ-loop
-loop-again c =     (omega arith,
-    store-step (c .before .before .before .before .before .before .before .before .before .args .out .now) (c .before .before .before .before .before .before .loop .out) _ (c .before .before .before .before .before .before .before .before .before .args .objects .now) (c .before .before .before .before .before .before .loop .i) (c .before .before .before .before .before .loop-test .taken) (c .before .before .before .before .before .before .loop .inv .1) (c .before .before .put-object .ensures))
+loop-again c = (
+  omega arith,
+  store-step (c .before .before .before .before .before .before .before .before .before .args .out .now) (c .before .before .before .before .before .before .loop .out) _ (c .before .before .before .before .before .before .before .before .before .args .objects .now) (c .before .before .before .before .before .before .loop .i) (c .before .before .before .before .before .loop-test .taken) (c .before .before .before .before .before .before .loop .inv .1) (c .before .before .put-object .ensures),
+)
 
 -- src/to_bytes.rt:35:1
 same-length : tie.Need-same-length Inv-loop μ-loop
-same-length c =     length-stored (c .before .before .before .before .args .out .now) (c .before .loop .out) (bytesOf (take (c .before .loop .i) (c .before .before .before .before .args .objects .now))) 4 (c .before .loop .inv .1)
+same-length c = length-stored (c .before .before .before .before .args .out .now) (c .before .loop .out) (bytesOf (take (c .before .loop .i) (c .before .before .before .before .args .objects .now))) 4 (c .before .loop .inv .1)
 
 -- src/to_bytes.rt:35:1
 returns : tie.Need-returns Inv-loop μ-loop
-returns c =     let o = c .before .before .before .before .args .objects .now in
+returns c = let o = c .before .before .before .before .args .objects .now in
     c .before .loop .inv .1 ∙ ap (λ (x : List ℕ). sets (c .before .before .before .before .args .out .now) 4 (bytesOf x)) (take-all (c .before .loop .i) o (c .loop-test .left))
 
 pub put-objects-spec : {M : Type 1} → statement M

@@ -48,12 +48,12 @@ add-if3 c = search needs
 -- src/to_bytes.rt:55:13
 returns-2 : tie.Need-returns-2
 unfolding wellShaped
-returns-2 c =     let m : Message = record { head = c .before .before .before .before .before .before .args .head; objects = c .before .before .before .before .before .before .args .objects .now } in
+returns-2 c = let m : Message = record { head = c .before .before .before .before .before .before .args .head; objects = c .before .before .before .before .before .before .args .objects .now } in
     write-short m (c .before .before .before .before .before .before .args .out .now) (sym (c .before .before .shape .ensures) ∙ c .before .if2 .taken) (omega (arith, length-message m))
 
 -- src/to_bytes.rt:57:28
 header-of-requires : tie.Need-header-of-requires
-header-of-requires c κs =     let h = c .before .before .before .before .before .before .before .args .head in
+header-of-requires c κs = let h = c .before .before .before .before .before .before .before .args .head in
     let good = sym (c .before .before .before .shape .ensures) ∙ c .before .before .if2 .taken in
     (shape-command h _ good, shape-kind h _ good, shape-position h _ good)
 
@@ -72,7 +72,7 @@ same-length c = search needs
 -- src/to_bytes.rt:59:9
 returns-3 : tie.Need-returns-3
 unfolding wellShaped
-returns-3 c =     let m : Message = record { head = c .before .before .before .before .before .before .before .before .before .before .before .before .before .before .before .args .head; objects = c .before .before .before .before .before .before .before .before .before .before .before .before .before .before .before .args .objects .now } in
+returns-3 c = let m : Message = record { head = c .before .before .before .before .before .before .before .before .before .before .before .before .before .before .before .args .head; objects = c .before .before .before .before .before .before .before .before .before .before .before .before .before .before .before .args .objects .now } in
     let out = c .before .before .before .before .before .before .before .before .before .before .before .before .before .before .before .args .out .now in
     let room : length (messageBytes m) ≤ length out = omega (arith, length-message m) in
     write-whole m out (sym (c .before .before .before .before .before .before .before .before .before .before .before .shape .ensures) ∙ c .before .before .before .before .before .before .before .before .before .before .if2 .taken) room _
@@ -81,7 +81,7 @@ returns-3 c =     let m : Message = record { head = c .before .before .before .b
 -- src/to_bytes.rt:46:1
 returns-4 : tie.Need-returns-4
 unfolding wellShaped
-returns-4 c =     let m : Message = record { head = c .before .before .before .before .before .args .head; objects = c .before .before .before .before .before .args .objects .now } in
+returns-4 c = let m : Message = record { head = c .before .before .before .before .before .args .head; objects = c .before .before .before .before .before .args .objects .now } in
     write-shape m (c .before .before .before .before .before .args .out .now) (sym (c .before .shape .ensures) ∙ c .if2 .left)
 
 pub write-spec : {M : Type 1} → statement M

@@ -1,0 +1,2 @@
+-- Laws on a reading as numbers.
+pub mod Laws

@@ -1,0 +1,2 @@
+-- What the exported functions hand over, as numbers.
+pub mod Numbers

@@ -1,0 +1,45 @@
+// The proved library for Rust and C to link: thin functions on numbers and slices.
+ghost use mathlib.Core.Path.{_≡_};
+ghost use mathlib.Core.List.{[]};
+ghost use Rattle.messages.specs.Reading.{readOutcome, told};
+ghost use Rattle.exports.specs.Numbers.{numberOf, numbersOf};
+use messages::Answer;
+use messages::Head;
+
+fn number(answer: Answer) -> u8
+    ensures { λ r. ⌜ r ≡ numberOf (told answer []) ⌝ }
+{
+    match answer {
+        Answer::Message(_, _) => 0,
+        Answer::Refused(number) => number,
+    }
+}
+
+// Reads a message. Accepted, it is 0, and `into` has SVID, command, type, position, number of objects after the header, and six objects;
+// refused, it is the number, and `into` stays.
+#[no_mangle]
+pub extern "C" fn exports_read(bytes: &[u8], into: &mut [u32; 11]) -> u8
+    ensures { λ r. ⌜ r ≡ numberOf (readOutcome (now (bytes .entry))) ⌝ }
+    ensures { λ r. ⌜ now (into .exit) ≡ numbersOf (readOutcome (now (bytes .entry))) (now (into .entry)) ⌝ }
+{
+    let reading = messages::read(bytes);
+    let answer = reading.answer;
+    let Answer::Message(head, count) = answer else {
+        return number(answer);
+    };
+    let objects = reading.objects;
+    *into = [
+        head.svid as u32,
+        head.command as u32,
+        head.kind as u32,
+        head.position as u32,
+        count as u32,
+        objects[0],
+        objects[1],
+        objects[2],
+        objects[3],
+        objects[4],
+        objects[5],
+    ];
+    0
+}

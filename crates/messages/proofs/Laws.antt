@@ -1,0 +1,140 @@
+-- What reading and writing keep, for whoever stands above: the laws that the promises of `read` and `write` give, by name.
+use mathlib.Core.Logic.{_↔_}
+use mathlib.Core.Path.{_≡_, refl, ap, sym, _∙_}
+use mathlib.Core.Bool.{Bool, true, false, cond, not, _&&_, false≢true}
+use mathlib.Core.List.{List, [], _∷_, _++_, append-nil}
+use Prim.Native.Nat.{ℕ, zero, suc, _+_, _*_, _/_, _<_, _≤_}
+use native.Mathlib.Omega.{arith}
+use lib.Dec.{ltb, eqb}
+use lib.ListN.{length, getD, take, drop, length-set}
+use lib.Seq.{take-append-seam, drop-length}
+use borrow.Author.Tests.{lt-ltb, le-ltb, ltb-true, ltb-false, eq-eqb, ne-eqb, not-true}
+use Rattle.laws.specs.Bounded.{Below}
+use Rattle.laws.specs.Lines.{firstAt}
+use Rattle.laws.specs.Padded.{padded}
+use Rattle.laws.proofs.Lines.{first-line, first-at}
+use Rattle.laws.proofs.Padded.{take-padded}
+use Rattle.messages.specs.Layout.{headOf, Message, Representable, messageBytes, withOurVersion}
+use Rattle.messages.specs.Table.{firstHead, allowed, rowOf, leastObjects, shape}
+use Rattle.messages.specs.Reading.{headerIn, readLines, readRefusal, messageIn, Outcome, accepted, refused, outcome, readOutcome, shown, told}
+use Rattle.messages.specs.Writing.{wellShaped, writeRefusal, written, Written}
+use Rattle.messages.specs.declared.Answer.the-variants.{Refused}
+use Rattle.messages.specs.declared.Answer.the-variants.{Message as Answer·Message}
+use Rattle.messages.specs.declared.Head.{Head}
+use Rattle.messages.specs.declared.Reading.{Reading}
+use Rattle.messages.proofs.Refusals.{read-refused, outcome-refused}
+use Rattle.messages.proofs.RoundTrip.{read-bytes, bytes-read, accepted-shape, accepted-objects}
+use Rattle.messages.proofs.Rule.{shape-allowed, occurs}
+use Rattle.messages.proofs.Stores.{write-whole}
+
+-- writing is refused 5 exactly for a wrong shape, 11 exactly for a short buffer under a good one, and by no other number
+pub write-refused-5 : (m : Message) (room : ℕ) → (writeRefusal m room ≡ 5) ↔ (wellShaped m ≡ false)
+unfolding writeRefusal
+write-refused-5 m room = go (wellShaped m) (ltb room (length (messageBytes m)))
+  where
+    go : (s t : Bool) → (_≡_ {A = ℕ} (cond (not s) 5 (cond t 11 0)) 5) ↔ (s ≡ false)
+    go true true = (λ e. absurd (omega arith), λ e. absurd (false≢true (sym e)))
+    go true false = (λ e. absurd (omega arith), λ e. absurd (false≢true (sym e)))
+    go false t = (λ e. refl, λ e. refl)
+
+pub write-refused-11 : (m : Message) (room : ℕ) →
+    (writeRefusal m room ≡ 11) ↔ ((wellShaped m ≡ true) × (ltb room (length (messageBytes m)) ≡ true))
+unfolding writeRefusal
+write-refused-11 m room = go (wellShaped m) (ltb room (length (messageBytes m)))
+  where
+    go : (s t : Bool) → (_≡_ {A = ℕ} (cond (not s) 5 (cond t 11 0)) 11) ↔ ((s ≡ true) × (t ≡ true))
+    go true true = (λ e. (refl, refl), λ e. refl)
+    go true false = (λ e. absurd (omega arith), λ e. absurd (false≢true (e .1)))
+    go false t = (λ e. absurd (omega arith), λ e. absurd (false≢true (e .0)))
+
+pub write-accepted : (m : Message) (room : ℕ) →
+    (writeRefusal m room ≡ 0) ↔ ((wellShaped m ≡ true) × (ltb room (length (messageBytes m)) ≡ false))
+unfolding writeRefusal
+write-accepted m room = go (wellShaped m) (ltb room (length (messageBytes m)))
+  where
+    go : (s t : Bool) → (_≡_ {A = ℕ} (cond (not s) 5 (cond t 11 0)) 0) ↔ ((s ≡ true) × (t ≡ false))
+    go true true = (λ e. absurd (omega arith), λ e. absurd (false≢true (sym (e .1))))
+    go true false = (λ e. (refl, refl), λ e. refl)
+    go false t = (λ e. absurd (omega arith), λ e. absurd (false≢true (e .0)))
+
+-- what was written is read again
+pub read-write : (m : Message) → Representable m → (out : List ℕ) → writeRefusal m (length out) ≡ 0 →
+    readOutcome (take (length (messageBytes m)) (written m out)) ≡ accepted m
+unfolding written
+read-write m fits out e =
+    let kept : take (length (messageBytes m)) (written m out) ≡ messageBytes m =
+    rw e (take-append-seam (messageBytes m) (drop (length (messageBytes m)) out)) in
+    ap readOutcome kept ∙ read-bytes m fits (write-accepted m (length out) .0 e .0)
+
+-- what was read is written again, with our version in the header
+pub write-read : (b : List ℕ) → Below 256 b → (m : Message) → readOutcome b ≡ accepted m → (out : List ℕ) → length out ≡ length b →
+    Written m out 0 (withOurVersion b)
+unfolding withOurVersion
+write-read b below m e out room =
+    let bytes : messageBytes m ≡ withOurVersion b = bytes-read b m below e in
+    let size : length (messageBytes m) ≡ length out = ap length bytes ∙ length-set b 1 _ ∙ sym room in
+    let rest : drop (length (messageBytes m)) out ≡ [] = ap (λ (n : ℕ). drop n out) size ∙ drop-length out in
+    write-whole m out (accepted-shape b m e) (omega (arith, size)) (withOurVersion b)
+    (sym bytes ∙ sym (append-nil (messageBytes m)) ∙ ap (λ (l : List ℕ). messageBytes m ++ l) (sym rest))
+
+-- a result that a promise allows is the only one
+pub read-only : (b : List ℕ) (r r′ : Reading) → r ≡ shown (readOutcome b) → r′ ≡ shown (readOutcome b) → r ≡ r′
+read-only b r r′ e e′ = e ∙ sym e′
+
+pub write-only : (m : Message) (out : List ℕ) (number number′ : ℕ) (after after′ : List ℕ) →
+    Written m out number after → Written m out number′ after′ → (number ≡ number′) × (after ≡ after′)
+write-only m out number number′ after after′ w w′ =
+    (w .number-is ∙ sym (w′ .number-is), w .buffer-is ∙ sym (w′ .buffer-is))
+
+-- the code's answer tells the outcome
+pub read-told : (b : List ℕ) (r : Reading) → r ≡ shown (readOutcome b) → told (r .answer) (r .objects) ≡ readOutcome b
+unfolding shown
+read-told b r e = ap (λ (s : Reading). told (s .answer) (s .objects)) e ∙ go (readOutcome b) refl
+  where
+    go : (o : Outcome) → readOutcome b ≡ o → told (shown o .answer) (shown o .objects) ≡ o
+    go (accepted m) is = ap (λ (l : List ℕ). accepted (record { head = m .head; objects = l })) (take-padded (m .objects) (accepted-objects b m is))
+    go (refused number) is = refl
+
+-- for whoever takes the answer apart: each case of it is one of the outcome
+pub answer-refused : (o : Outcome) (r : Reading) (number : ℕ) → r ≡ shown o → r .answer ≡ Refused number → o ≡ refused number
+unfolding shown
+answer-refused (accepted m) r number e a = absurd (let o : _≡_ {A = ℕ} 0 1 = cc (ap (λ (s : Reading). s .answer) e) in omega arith)
+answer-refused (refused n) r number e a = cc (ap (λ (s : Reading). s .answer) e)
+
+pub answer-message : (o : Outcome) (r : Reading) (h : Head) (count : ℕ) → r ≡ shown o → r .answer ≡ Answer·Message h count →
+    (m : Message) × (o ≡ accepted m) × (m .head ≡ h) × (length (m .objects) ≡ count) × (padded (m .objects) ≡ r .objects)
+unfolding shown
+answer-message (accepted m) r h count e a =
+    let same : Answer·Message (m .head) (length (m .objects)) ≡ Answer·Message h count = sym (ap (λ (s : Reading). s .answer) e) ∙ a in
+    (m, refl, cc, cc, ap (λ (s : Reading). s .objects) (sym e))
+answer-message (refused n) r h count e a = absurd (let o : _≡_ {A = ℕ} 0 1 = cc (ap (λ (s : Reading). s .answer) e) in omega arith)
+
+-- reading is refused by a number exactly when that line of the table is the first that holds; there are lines 1 to 5
+pub read-refused-by : (b : List ℕ) (k : ℕ) → (readOutcome b ≡ refused (1 + k)) ↔ (firstAt (readLines b) k ≡ true)
+unfolding readRefusal
+read-refused-by b k = (
+  λ e. first-line 1 (readLines b) k (omega arith) .0 (outcome-refused b (1 + k) e),
+  λ e. read-refused b (1 + k) (λ z. omega arith) (first-line 1 (readLines b) k (omega arith) .1 e),
+)
+
+-- a pair of command and type that the table does not allow is 5, read or written
+pair-shape : (h : Head) (count : ℕ) → allowed (h .command) (h .kind) ≡ false → shape h count ≡ false
+pair-shape h count none = go (shape h count) refl
+  where
+    go : (t : Bool) → shape h count ≡ t → shape h count ≡ false
+    go true e = absurd (false≢true (sym none ∙ shape-allowed h count e))
+    go false e = e
+
+pub write-pair : (m : Message) (room : ℕ) → allowed (m .head .command) (m .head .kind) ≡ false → writeRefusal m room ≡ 5
+unfolding wellShaped
+write-pair m room none = write-refused-5 m room .1 (pair-shape (m .head) (length (m .objects) + 1) none)
+
+pub read-pair : (b : List ℕ) → ((k : ℕ) → k < 4 → getD (readLines b) k false ≡ false) →
+    allowed (messageIn b .head .command) (messageIn b .head .kind) ≡ false → readOutcome b ≡ refused 5
+unfolding messageIn
+read-pair b before none =
+    read-refused-by b 4 .1 (first-at (readLines b) 4 before (ap not (pair-shape (headOf (headerIn b)) (length b / 4) none)))
+
+-- and each pair that it allows has a message
+pub pair-occurs : (command kind : ℕ) → allowed command kind ≡ true → shape (firstHead command kind) (leastObjects (rowOf command) kind) ≡ true
+pair-occurs = occurs

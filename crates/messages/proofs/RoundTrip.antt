@@ -1,0 +1,150 @@
+-- Reading what was written, and writing what was read.
+use mathlib.Core.Path.{_≡_, refl, ap, ap₂, sym, _∙_}
+use mathlib.Core.Bool.{Bool, true, false, cond, not, _&&_}
+use mathlib.Core.List.{List, [], _∷_, _++_}
+use Prim.Native.Nat.{ℕ, zero, suc, _+_, _*_, _/_, _%_, _^_, _<_, _≤_}
+use native.Mathlib.Omega.{arith}
+use lib.Dec.{leb, ltb, eqb}
+use lib.ListN.{length, getD, take, drop, set, length-drop}
+use lib.Seq.{take-append-seam, drop-length}
+use borrow.Author.Tests.{eqb-true, eqb-false, leb-true, leb-false, not-false, eq-eqb}
+use Rattle.laws.specs.Bounded.{Below}
+use Rattle.laws.specs.Lines.{firstLine}
+use Rattle.laws.proofs.Lines.{and-left, and-right, none-holds}
+use Rattle.messages.specs.Layout.{bits, objectOf, bytesOfObject, objectsOf, bytesOf, structured, major, reserved, headOf, headerOf, Message, Representable, messageBytes, withOurVersion}
+use Rattle.messages.specs.Table.{shape}
+use Rattle.messages.specs.Reading.{wrongLength, headerLines, headerIn, readLines, readRefusal, messageIn, Outcome, accepted, refused, outcome, readOutcome}
+use Rattle.messages.specs.Writing.{wellShaped, writeRefusal, written}
+use Rattle.messages.specs.declared.Head.{Head}
+use Rattle.messages.proofs.Header.{header-below, header-structured, header-major, header-reserved, head-header, header-head}
+use Rattle.messages.proofs.Objects.{objects-bytes, bytes-objects, object-bytes, length-bytes, length-objects}
+use Rattle.messages.proofs.Refusals.{right-length, lines-none, read-accepted, refusal-header}
+use Rattle.messages.proofs.Rule.{shape-command, shape-kind, shape-position, shape-count}
+use Rattle.messages.proofs.Stores.{length-message, write-whole}
+
+module _ (m : Message) (fits : Representable m) (good : wellShaped m ≡ true) where
+  good-shape : shape (m .head) (length (m .objects) + 1) ≡ true
+  unfolding wellShaped
+  good-shape = good
+
+  good-command : m .head .command < 32
+  good-command = shape-command _ _ good-shape
+
+  good-kind : m .head .kind < 4
+  good-kind = shape-kind _ _ good-shape
+
+  good-position : m .head .position < 8
+  good-position = shape-position _ _ good-shape
+
+  objects-again : objectsOf (messageBytes m) ≡ headerOf (m .head) ∷ m .objects
+  unfolding messageBytes
+  objects-again = objects-bytes (headerOf (m .head) ∷ m .objects) below
+    where
+      below : Below (2 ^ 32) (headerOf (m .head) ∷ m .objects)
+      below zero =
+          header-below (m .head) (fits .svid-fits) good-command good-kind good-position
+      below (suc k) = fits .objects-fit k
+
+  header-again : headerIn (messageBytes m) ≡ headerOf (m .head)
+  header-again = ap (λ (l : List ℕ). getD l 0 0) objects-again
+
+  count-again : length (messageBytes m) / 4 ≡ length (m .objects) + 1
+  count-again = omega (arith, length-message m)
+
+  head-again : headOf (headerOf (m .head)) ≡ m .head
+  head-again = head-header (m .head) (fits .svid-fits) good-command good-kind good-position
+
+  no-line : 0 ≡ firstLine 2 (headerLines (headerOf (m .head)) (length (m .objects) + 1))
+  no-line =
+      lines-none (headerOf (m .head)) (length (m .objects) + 1)
+      (λ z. omega (arith, header-structured (m .head) (fits .svid-fits) good-command good-kind good-position))
+      (omega (arith, header-major (m .head) (fits .svid-fits) good-command good-kind good-position))
+      (λ z. omega (arith, header-reserved (m .head) (fits .svid-fits) good-command good-kind good-position))
+      (sym (ap (λ (h : Head). shape h (length (m .objects) + 1)) head-again ∙ good-shape))
+
+  not-refused : readRefusal (messageBytes m) ≡ 0
+  not-refused =
+      refusal-header (messageBytes m)
+      (right-length (length (messageBytes m)) (omega (arith, length-message m)) (omega (arith, length-message m, shape-count _ _ good-shape .1)) (omega (arith, length-message m))) ∙
+      ap (λ (w : ℕ). firstLine 2 (headerLines w (length (messageBytes m) / 4))) header-again ∙
+      ap (λ (n : ℕ). firstLine 2 (headerLines (headerOf (m .head)) n)) count-again ∙ sym no-line
+
+  message-again : messageIn (messageBytes m) ≡ m
+  unfolding messageIn
+  message-again =
+      let eh : headOf (headerIn (messageBytes m)) ≡ m .head = ap headOf header-again ∙ head-again in
+      let eo : drop 1 (objectsOf (messageBytes m)) ≡ m .objects = ap (λ (l : List ℕ). drop 1 l) objects-again in
+      λ i. record { head = eh i; objects = eo i }
+
+  pub read-bytes : readOutcome (messageBytes m) ≡ accepted m
+  read-bytes = read-accepted (messageBytes m) not-refused ∙ ap accepted message-again
+
+-- what an accepted message says of its bytes
+outcome-accepted : (number : ℕ) (n m : Message) → outcome number n ≡ accepted m → (number ≡ 0) × (n ≡ m)
+unfolding outcome
+outcome-accepted number n m = go (eqb number 0) refl
+  where
+    go : (t : Bool) → eqb number 0 ≡ t → cond t (accepted n) (refused number) ≡ accepted m → (number ≡ 0) × (n ≡ m)
+    go true z e = (eqb-true number 0 z, cc)
+    go false z e = absurd (let o : _≡_ {A = ℕ} 0 1 = cc in omega arith)
+
+module _ (b : List ℕ) (m : Message) (e : readOutcome b ≡ accepted m) where
+  is-in : messageIn b ≡ m
+  unfolding readOutcome
+  is-in = outcome-accepted (readRefusal b) (messageIn b) m e .1
+
+  line : (k : ℕ) → getD (readLines b) k false ≡ false
+  unfolding readOutcome readRefusal
+  line k = none-holds 1 (readLines b) (omega arith) (outcome-accepted (readRefusal b) (messageIn b) m e .0) k
+
+  pub accepted-length : (4 ≤ length b) × (length b ≤ 28) × (length b % 4 ≡ 0)
+  accepted-length =
+      let n : ℕ = length b in
+      let right = not-false (leb 4 n && (leb n 28 && eqb (n % 4) 0)) (line 0) in
+      let rest = and-right (leb 4 n) _ right in (
+        leb-true 4 n (and-left (leb 4 n) _ right),
+        leb-true n 28 (and-left (leb n 28) _ rest),
+        eqb-true (n % 4) 0 (and-right (leb n 28) _ rest),
+      )
+
+  pub accepted-objects : length (m .objects) ≤ 6
+  unfolding messageIn
+  accepted-objects =
+      let count : length (m .objects) ≡ length (drop 1 (objectsOf b)) = ap (λ (n : Message). length (n .objects)) (sym is-in) in
+      omega (arith, count, length-drop 1 (objectsOf b), length-objects b, accepted-length .1)
+
+  is-structured : structured (headerIn b) ≡ 1
+  is-structured = let no = eqb-false (structured (headerIn b)) 0 (line 1) in omega arith
+
+  is-clear : reserved (headerIn b) ≡ 0
+  is-clear = let no = eqb-false (reserved (headerIn b)) 1 (line 3) in omega arith
+
+  has-shape : shape (headOf (headerIn b)) (length b / 4) ≡ true
+  has-shape = not-false _ (line 4)
+
+  pub accepted-shape : wellShaped m ≡ true
+  unfolding wellShaped messageIn
+  accepted-shape =
+      let count : length (drop 1 (objectsOf b)) + 1 ≡ length b / 4 = omega (arith, length-drop 1 (objectsOf b), length-objects b, accepted-length .0) in
+      ap wellShaped (sym is-in) ∙ ap (λ (n : ℕ). shape (headOf (headerIn b)) n) count ∙ has-shape
+
+-- four bytes are the header, and its second is where the version stands
+bytes-again : (b : List ℕ) → Below 256 b → 4 ≤ length b → length b % 4 ≡ 0 → structured (headerIn b) ≡ 1 → reserved (headerIn b) ≡ 0 →
+    messageBytes (messageIn b) ≡ withOurVersion b
+unfolding messageBytes messageIn withOurVersion objectsOf bytesOf
+bytes-again [] below l e s c = absurd (omega arith)
+bytes-again (p ∷ []) below l e s c = absurd (omega arith)
+bytes-again (p ∷ q ∷ []) below l e s c = absurd (omega arith)
+bytes-again (p ∷ q ∷ r ∷ []) below l e s c = absurd (omega arith)
+bytes-again (p ∷ q ∷ r ∷ t ∷ rest) below l e s c =
+    let version : ℕ = bits 7 7 q * 2 ^ 7 + 1 * 2 ^ 5 + 0 * 2 ^ 3 + bits 2 0 q in
+    let header : headerOf (headOf (objectOf p q r t)) ≡ objectOf p version r t = header-head p q r t (below 0) (below 1) (below 2) (below 3) s c in
+    let first : bytesOfObject (headerOf (headOf (objectOf p q r t))) ≡ p ∷ version ∷ r ∷ t ∷ [] =
+    ap bytesOfObject header ∙ object-bytes p version r t (below 0) (omega arith) (below 2) (below 3) in
+    let others : bytesOf (objectsOf rest) ≡ rest = bytes-objects rest (λ k. below (suc (suc (suc (suc k))))) (omega arith) in
+    ap₂ (λ (x y : List ℕ). x ++ y) first others
+
+pub bytes-read : (b : List ℕ) (m : Message) → Below 256 b → readOutcome b ≡ accepted m → messageBytes m ≡ withOurVersion b
+bytes-read b m below e =
+    ap messageBytes (sym (is-in b m e)) ∙
+    bytes-again b below (accepted-length b m e .0) (accepted-length b m e .2) (is-structured b m e) (is-clear b m e)

@@ -1,0 +1,177 @@
+//! Reading messages: both sides' answers to recorded inputs, then their speed.
+
+use crate::rounds;
+use second::messages::{
+    read, write, ACK, ATTENTION, BUSY, ENTER, EXIT, IDENTITY, LAST_MODE_POSITION, MODES, NAK,
+    OBJECT_BYTES, PD_SID, REQ, SVIDS,
+};
+use second::random::Random;
+use second::refusals::{ACCEPTED, WRONG_SHAPE};
+use std::hint::black_box;
+use std::ops::Range;
+
+const SEED: u64 = 0x5EED_0000_0000_0002;
+const INPUTS: usize = 100_000;
+/// One input in so many is damaged.
+const DAMAGED_ONE_IN: usize = 10;
+
+/// SVID, command, type, position, number of objects after the header, then their six words.
+type Answer = [u32; 11];
+/// Leaves the answer alone on a refusal.
+type Reader = fn(&[u8], &mut Answer) -> u8;
+/// What an answer holds before the call.
+const UNTOUCHED: Answer = [0xA5A5_A5A5; 11];
+
+/// Bits of the header's first and second byte.
+const RESERVED: u8 = 0x20;
+const STRUCTURED: u8 = 0x80;
+const MAJOR_2: u8 = 0x40;
+/// The bytes of the header that hold the SVID.
+const SVID: Range<usize> = 2..4;
+
+/// Command, type, and the least and the most objects after the header.
+const MESSAGES: [(u8, u8, usize, usize); 16] = [
+    (IDENTITY, REQ, 0, 0),
+    (IDENTITY, ACK, 3, 6),
+    (IDENTITY, BUSY, 0, 0),
+    (SVIDS, REQ, 0, 0),
+    (SVIDS, ACK, 1, 6),
+    (SVIDS, NAK, 0, 0),
+    (MODES, REQ, 0, 0),
+    (MODES, ACK, 1, 6),
+    (MODES, BUSY, 0, 0),
+    (ENTER, REQ, 0, 1),
+    (ENTER, ACK, 0, 0),
+    (ENTER, NAK, 0, 0),
+    (EXIT, REQ, 0, 0),
+    (EXIT, ACK, 0, 0),
+    (EXIT, NAK, 0, 0),
+    (ATTENTION, REQ, 0, 1),
+];
+
+extern "C" {
+    fn exports_read(bytes: *const u8, length: usize, into: *mut u32) -> u8;
+}
+
+#[inline(never)]
+fn proved_read(bytes: &[u8], into: &mut Answer) -> u8 {
+    // SAFETY: it reads `length` bytes and writes eleven words or none.
+    unsafe { exports_read(bytes.as_ptr(), bytes.len(), into.as_mut_ptr()) }
+}
+
+#[inline(never)]
+fn rust_read(bytes: &[u8], into: &mut Answer) -> u8 {
+    let message = match read(bytes) {
+        Ok(message) => message,
+        Err(refusal) => return refusal,
+    };
+    into[0] = message.svid.into();
+    into[1] = message.command.into();
+    into[2] = message.kind.into();
+    into[3] = message.position.into();
+    into[4] = message.objects.as_slice().len() as u32;
+    into[5..].copy_from_slice(message.objects.words());
+    ACCEPTED
+}
+
+/// Messages one after another, with the start and length of each.
+struct Inputs {
+    bytes: Vec<u8>,
+    places: Vec<(usize, usize)>,
+}
+
+impl Inputs {
+    fn record() -> Self {
+        let mut random = Random::from_seed(SEED);
+        let mut bytes = Vec::new();
+        let mut places = Vec::new();
+        for _ in 0..INPUTS {
+            let mut message = drawn_message(&mut random);
+            if random.below(DAMAGED_ONE_IN) == 0 {
+                damage(&mut message, &mut random);
+            }
+            places.push((bytes.len(), message.len()));
+            bytes.extend(message);
+        }
+        Inputs { bytes, places }
+    }
+
+    fn messages(&self) -> impl Iterator<Item = &[u8]> {
+        self.places
+            .iter()
+            .map(|&(start, length)| &self.bytes[start..start + length])
+    }
+}
+
+fn drawn_message(random: &mut Random) -> Vec<u8> {
+    let (command, kind, least, most) = random.one_of(&MESSAGES);
+    let svid = match command {
+        IDENTITY | SVIDS => PD_SID,
+        _ => random.svid().max(1),
+    };
+    let position = match command {
+        ENTER | EXIT | ATTENTION => 1 + random.byte() % LAST_MODE_POSITION,
+        _ => 0,
+    };
+    let count = least + random.below(most - least + 1);
+    let objects: Vec<u32> = (0..count).map(|_| random.word()).collect();
+    let mut message = vec![0; (1 + count) * OBJECT_BYTES];
+    let answer = write(svid, command, kind, position, &objects, &mut message);
+    assert_eq!(answer, ACCEPTED);
+    message
+}
+
+/// Gives the message one of the faults behind the refusals 1 to 5.
+fn damage(message: &mut Vec<u8>, random: &mut Random) {
+    match 1 + random.below(WRONG_SHAPE.into()) {
+        1 => message.truncate(message.len() - 1),
+        2 => message[1] &= !STRUCTURED,
+        3 => message[1] |= MAJOR_2,
+        4 => message[0] |= RESERVED,
+        _ => message[SVID].fill(0),
+    }
+}
+
+/// How often 0 to 5 were answered.
+type Counts = [usize; 6];
+
+/// Counts the answers, and panics at the first input that the sides answer differently.
+fn compare_answers(inputs: &Inputs) -> Counts {
+    let mut counts = Counts::default();
+    for message in inputs.messages() {
+        let (mut proved, mut rust) = (UNTOUCHED, UNTOUCHED);
+        let proved_number = proved_read(message, &mut proved);
+        let rust_number = rust_read(message, &mut rust);
+        assert_eq!(
+            (proved_number, proved),
+            (rust_number, rust),
+            "proved (left) and Rust (right) differ on {message:02X?}"
+        );
+        counts[usize::from(rust_number)] += 1;
+    }
+    counts
+}
+
+fn read_all(reader: Reader, inputs: &Inputs) {
+    let reader = black_box(reader);
+    let mut answer = UNTOUCHED;
+    for message in inputs.messages() {
+        black_box(reader(message, &mut answer));
+        black_box(&answer);
+    }
+}
+
+pub fn measure() {
+    let inputs = Inputs::record();
+    let counts = compare_answers(&inputs);
+    println!("reading {INPUTS} messages, both sides answer alike");
+    println!("accepted: {}", counts[usize::from(ACCEPTED)]);
+    for (number, count) in counts.iter().enumerate().skip(1) {
+        println!("refused {number}: {count}");
+    }
+    rounds::compare(
+        INPUTS,
+        || read_all(proved_read, &inputs),
+        || read_all(rust_read, &inputs),
+    );
+}

@@ -1,0 +1,9 @@
+//! The refusal numbers of document 01 that this package gives so far.
+
+pub const ACCEPTED: u8 = 0;
+pub const NOT_WHOLE_OBJECTS: u8 = 1;
+pub const NOT_STRUCTURED: u8 = 2;
+pub const UNREAD_MAJOR: u8 = 3;
+pub const RESERVED_BIT: u8 = 4;
+pub const WRONG_SHAPE: u8 = 5;
+pub const SHORT_BUFFER: u8 = 11;

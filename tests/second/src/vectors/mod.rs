@@ -1,0 +1,9 @@
+//! Vectors that both implementations answer: their stream, their making, answering and counting.
+
+pub mod answers;
+pub mod generator;
+mod header;
+pub mod tally;
+mod vector;
+
+pub use vector::{Stop, Vector};

@@ -1,9 +1,8 @@
 -- A reading as numbers.
 use Prim.Native.Nat.{ℕ}
-use mathlib.Core.List.{List, [], _∷_}
+use mathlib.Core.List.{List, _∷_}
 use lib.ListN.{length}
 use Rattle.laws.specs.Padded.{padded}
-use Rattle.messages.specs.Layout.{Message}
 use Rattle.messages.specs.Reading.{Outcome, accepted, refused}
 
 -- 0, or the refusal number

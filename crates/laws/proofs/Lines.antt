@@ -1,7 +1,7 @@
 -- Lines that all hold, and the first of several that holds.
 use mathlib.Core.Logic.{_↔_}
 use mathlib.Core.Path.{_≡_, refl, sym}
-use mathlib.Core.Bool.{Bool, true, false, _&&_, false≢true}
+use mathlib.Core.Bool.{Bool, true, false, not, _&&_, _||_, false≢true}
 use mathlib.Core.List.{List, [], _∷_}
 use Prim.Native.Nat.{ℕ, zero, suc, _+_, _<_, _≤_}
 use native.Mathlib.Omega.{arith}
@@ -15,6 +15,10 @@ and-left false b e = e
 pub and-right : (a b : Bool) → (a && b) ≡ true → b ≡ true
 and-right true b e = e
 and-right false b e = absurd (false≢true e)
+
+pub or-right : (a b : Bool) → (not a || b) ≡ true → a ≡ true → b ≡ true
+or-right true b e h = e
+or-right false b e h = absurd (false≢true h)
 
 -- each of them holds
 pub hold-at : (lines : List Bool) → allHold lines ≡ true → (k : ℕ) → getD lines k true ≡ true

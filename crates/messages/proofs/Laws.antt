@@ -1,21 +1,20 @@
 -- What reading and writing keep, for whoever stands above: the laws that the promises of `read` and `write` give, by name.
 use mathlib.Core.Logic.{_↔_}
 use mathlib.Core.Path.{_≡_, refl, ap, sym, _∙_}
-use mathlib.Core.Bool.{Bool, true, false, cond, not, _&&_, false≢true}
-use mathlib.Core.List.{List, [], _∷_, _++_, append-nil}
-use Prim.Native.Nat.{ℕ, zero, suc, _+_, _*_, _/_, _<_, _≤_}
+use mathlib.Core.Bool.{Bool, true, false, cond, not, false≢true}
+use mathlib.Core.List.{List, [], _++_, append-nil}
+use Prim.Native.Nat.{ℕ, _+_, _/_, _<_}
 use native.Mathlib.Omega.{arith}
-use lib.Dec.{ltb, eqb}
+use lib.Dec.{ltb}
 use lib.ListN.{length, getD, take, drop, length-set}
 use lib.Seq.{take-append-seam, drop-length}
-use borrow.Author.Tests.{lt-ltb, le-ltb, ltb-true, ltb-false, eq-eqb, ne-eqb, not-true}
 use Rattle.laws.specs.Bounded.{Below}
 use Rattle.laws.specs.Lines.{firstAt}
 use Rattle.laws.specs.Padded.{padded}
 use Rattle.laws.proofs.Lines.{first-line, first-at}
 use Rattle.laws.proofs.Padded.{take-padded}
 use Rattle.messages.specs.Layout.{headOf, Message, Representable, messageBytes, withOurVersion}
-use Rattle.messages.specs.Table.{firstHead, allowed, rowOf, leastObjects, shape}
+use Rattle.messages.specs.Table.{rowOf, countsOf, shape, allowed, firstHead}
 use Rattle.messages.specs.Reading.{headerIn, readLines, readRefusal, messageIn, Outcome, accepted, refused, outcome, readOutcome, shown, told}
 use Rattle.messages.specs.Writing.{wellShaped, writeRefusal, written, Written}
 use Rattle.messages.specs.declared.Answer.the-variants.{Refused}
@@ -24,7 +23,7 @@ use Rattle.messages.specs.declared.Head.{Head}
 use Rattle.messages.specs.declared.Reading.{Reading}
 use Rattle.messages.proofs.Refusals.{read-refused, outcome-refused}
 use Rattle.messages.proofs.RoundTrip.{read-bytes, bytes-read, accepted-shape, accepted-objects}
-use Rattle.messages.proofs.Rule.{shape-allowed, occurs}
+use Rattle.messages.proofs.Rule.{shape-allowed, pair-has}
 use Rattle.messages.proofs.Stores.{write-whole}
 
 -- writing is refused 5 exactly for a wrong shape, 11 exactly for a short buffer under a good one, and by no other number
@@ -136,5 +135,6 @@ read-pair b before none =
     read-refused-by b 4 .1 (first-at (readLines b) 4 before (ap not (pair-shape (headOf (headerIn b)) (length b / 4) none)))
 
 -- and each pair that it allows has a message
-pub pair-occurs : (command kind : ℕ) → allowed command kind ≡ true → shape (firstHead command kind) (leastObjects (rowOf command) kind) ≡ true
-pair-occurs = occurs
+pub pair-occurs : (command kind : ℕ) → allowed command kind ≡ true →
+    (count : ℕ) × (shape (firstHead command kind) count ≡ true)
+pair-occurs command kind e = (countsOf (rowOf command) kind / 16, pair-has command kind e)

@@ -1,20 +1,19 @@
 -- The ways out of reading a message, over plain variables.
 use mathlib.Core.Path.{_≡_, refl, ap, sym, _∙_}
-use mathlib.Core.Bool.{Bool, true, false, cond, not, _&&_}
+use mathlib.Core.Bool.{Bool, true, false, cond}
 use mathlib.Core.List.{List, [], _∷_}
-use Prim.Native.Nat.{ℕ, suc, _+_, _-_, _/_, _%_, _^_, _<_, _≤_}
+use Prim.Native.Nat.{ℕ, _-_, _/_, _%_, _^_, _<_, _≤_}
 use native.Mathlib.Nat.{mod-eq-of-lt, div-one}
 use native.Mathlib.Omega.{arith}
-use lib.Dec.{leb, eqb}
+use lib.Dec.{eqb}
 use lib.ListN.{length, getD, drop, length-drop}
-use lib.Seq.{getD-drop}
 use borrow.Author.Tests.{eq-eqb, ne-eqb, le-leb, lt-leb}
 use Rattle.laws.specs.Lines.{firstLine}
 use Rattle.laws.specs.Padded.{padded}
 use Rattle.laws.proofs.Padded.{padded-at}
-use Rattle.messages.specs.Layout.{objectsOf, structured, major, reserved, headOf, Message}
+use Rattle.messages.specs.Layout.{objectsOf, structured, major, reserved, headOf}
 use Rattle.messages.specs.Table.{shape}
-use Rattle.messages.specs.Reading.{wrongLength, headerLines, headerIn, objectsIn, readLines, readRefusal, messageIn, Outcome, accepted, refused, outcome, readOutcome, shown}
+use Rattle.messages.specs.Reading.{wrongLength, headerLines, headerIn, objectsIn, readRefusal, messageIn, accepted, refused, outcome, readOutcome, shown}
 use Rattle.messages.specs.declared.Answer.the-variants.{Message as Answer·Message}
 use Rattle.messages.specs.declared.Head.{Head}
 use Rattle.messages.specs.declared.Reading.{Reading}

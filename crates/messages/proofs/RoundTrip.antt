@@ -1,26 +1,25 @@
 -- Reading what was written, and writing what was read.
 use mathlib.Core.Path.{_≡_, refl, ap, ap₂, sym, _∙_}
-use mathlib.Core.Bool.{Bool, true, false, cond, not, _&&_}
+use mathlib.Core.Bool.{Bool, true, false, cond, _&&_}
 use mathlib.Core.List.{List, [], _∷_, _++_}
 use Prim.Native.Nat.{ℕ, zero, suc, _+_, _*_, _/_, _%_, _^_, _<_, _≤_}
 use native.Mathlib.Omega.{arith}
-use lib.Dec.{leb, ltb, eqb}
-use lib.ListN.{length, getD, take, drop, set, length-drop}
-use lib.Seq.{take-append-seam, drop-length}
-use borrow.Author.Tests.{eqb-true, eqb-false, leb-true, leb-false, not-false, eq-eqb}
+use lib.Dec.{leb, eqb}
+use lib.ListN.{length, getD, drop, length-drop}
+use borrow.Author.Tests.{eqb-true, eqb-false, leb-true, not-false}
 use Rattle.laws.specs.Bounded.{Below}
 use Rattle.laws.specs.Lines.{firstLine}
 use Rattle.laws.proofs.Lines.{and-left, and-right, none-holds}
-use Rattle.messages.specs.Layout.{bits, objectOf, bytesOfObject, objectsOf, bytesOf, structured, major, reserved, headOf, headerOf, Message, Representable, messageBytes, withOurVersion}
+use Rattle.messages.specs.Layout.{bits, objectOf, bytesOfObject, objectsOf, bytesOf, structured, reserved, headOf, headerOf, Message, Representable, messageBytes, withOurVersion}
 use Rattle.messages.specs.Table.{shape}
-use Rattle.messages.specs.Reading.{wrongLength, headerLines, headerIn, readLines, readRefusal, messageIn, Outcome, accepted, refused, outcome, readOutcome}
-use Rattle.messages.specs.Writing.{wellShaped, writeRefusal, written}
+use Rattle.messages.specs.Reading.{headerLines, headerIn, readLines, readRefusal, messageIn, accepted, refused, outcome, readOutcome}
+use Rattle.messages.specs.Writing.{wellShaped, written}
 use Rattle.messages.specs.declared.Head.{Head}
 use Rattle.messages.proofs.Header.{header-below, header-structured, header-major, header-reserved, head-header, header-head}
-use Rattle.messages.proofs.Objects.{objects-bytes, bytes-objects, object-bytes, length-bytes, length-objects}
+use Rattle.messages.proofs.Objects.{objects-bytes, bytes-objects, object-bytes, length-objects}
 use Rattle.messages.proofs.Refusals.{right-length, lines-none, read-accepted, refusal-header}
 use Rattle.messages.proofs.Rule.{shape-command, shape-kind, shape-position, shape-count}
-use Rattle.messages.proofs.Stores.{length-message, write-whole}
+use Rattle.messages.proofs.Stores.{length-message}
 
 module _ (m : Message) (fits : Representable m) (good : wellShaped m ≡ true) where
   good-shape : shape (m .head) (length (m .objects) + 1) ≡ true

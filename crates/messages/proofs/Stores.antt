@@ -2,18 +2,17 @@
 use mathlib.Core.Path.{_≡_, refl, ap, sym, _∙_}
 use mathlib.Core.Bool.{Bool, true, false}
 use mathlib.Core.List.{List, [], _∷_, _++_, append-assoc, append-nil}
-use Prim.Native.Nat.{ℕ, suc, _+_, _*_, _/_, _%_, _<_, _≤_}
+use Prim.Native.Nat.{ℕ, _+_, _*_, _/_, _%_, _<_, _≤_}
 use native.Mathlib.Nat.{div-one}
 use native.Mathlib.Numerals.{add-one, add-two, add-three}
 use native.Mathlib.Omega.{arith}
-use lib.ListN.{length, getD, take, drop, set, length-append}
+use lib.ListN.{length, getD, take, drop, set}
 use lib.Seq.{sets, length-sets, length-take-le, take-suc}
 use borrow.Author.Tests.{lt-ltb, le-ltb}
 use Rattle.laws.proofs.Stores.{sets-append, sets-front}
 use Rattle.messages.specs.Layout.{bytesOfObject, bytesOf, headerOf, Message, messageBytes}
 use Rattle.messages.specs.Table.{shape}
 use Rattle.messages.specs.Writing.{wellShaped, writeRefusal, written, Written}
-use Rattle.messages.specs.declared.Head.{Head}
 use Rattle.messages.proofs.Objects.{length-bytes}
 use Rattle.messages.proofs.Rule.{shape-count}
 

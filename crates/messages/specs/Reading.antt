@@ -8,11 +8,10 @@ use Rattle.laws.specs.Lines.{firstLine}
 use Rattle.laws.specs.Padded.{padded}
 use Rattle.messages.specs.Layout.{objectsOf, structured, major, reserved, headOf, Message}
 use Rattle.messages.specs.Table.{shape}
-use Rattle.messages.specs.declared.Head.{Head}
 use Rattle.messages.specs.declared.Reading.{Reading}
 use Rattle.messages.specs.declared.Answer.{Answer}
-use Rattle.messages.specs.declared.Answer.the-variants.{Refused}
 use Rattle.messages.specs.declared.Answer.the-variants.{Message as Answer·Message}
+use Rattle.messages.specs.declared.Answer.the-variants.{Refused}
 
 -- bytes are not 4, 8, .. 28
 abbrev pub wrongLength : ℕ → Bool

@@ -1,103 +1,77 @@
 // 01's table of commands, and the one rule over it.
 ghost use mathlib.Core.Path.{_≡_};
-ghost use Rattle.messages.specs.Table.{rowOf, leastObjects, mostObjects, svidFits};
+ghost use mathlib.Core.Bool.{cond};
+ghost use Prim.Native.Nat.{_/_, _%_, _<_};
+ghost use lib.Dec.{eqb};
+ghost use Rattle.messages.specs.Table.{rowOf, countsOf};
 ghost use Rattle.messages.specs.Table.{fits as Table·fits, shape as Table·shape};
-use crate::ACK;
-use crate::BUSY;
 use crate::Head;
-use crate::NAK;
 use crate::PD_SID;
-use crate::REQ;
 
-// What a command's messages look like: object counts by type, the header counted (a most of 0: there is none), the SVID rule, positions.
+// What a command's messages look like. The object counts, the header counted, stand as two hexadecimal digits a type, least and most,
+// BUSY first: 0x11114711 is BUSY 1..1, NAK 1..1, ACK 4..7, REQ 1..1; 1..0 is none. One number is one load, and its digits need no branch.
 pub struct Row {
-    pub request: u8,
-    pub least: u8,
-    pub most: u8,
-    pub nak: u8,
-    pub busy: u8,
-    pub rule: u8,
+    pub counts: u32,
+    pub lowest: u16,
+    pub highest: u16,
     pub first: u8,
     pub last: u8,
 }
 
-const ANY_SVID: u8 = 0;
-
-const NOT_ZERO: u8 = 1;
-
-const ONLY_PD_SID: u8 = 2;
+const HIGHEST_SVID: u16 = 0xFFFF;
 
 const COMMANDS: u8 = 32;
+
+const TYPES: u8 = 4;
 
 // By command. The row of command 0 is also that of 7..31.
 const ROWS: [Row; 7] = [
     Row {
-        request: 7,
-        least: 1,
-        most: 0,
-        nak: 1,
-        busy: 0,
-        rule: ANY_SVID,
+        counts: 0x10111017,
+        lowest: 0,
+        highest: HIGHEST_SVID,
         first: 0,
         last: 7,
     },
     Row {
-        request: 1,
-        least: 4,
-        most: 7,
-        nak: 1,
-        busy: 1,
-        rule: ONLY_PD_SID,
+        counts: 0x11114711,
+        lowest: PD_SID,
+        highest: PD_SID,
         first: 0,
         last: 0,
     },
     Row {
-        request: 1,
-        least: 2,
-        most: 7,
-        nak: 1,
-        busy: 1,
-        rule: ONLY_PD_SID,
+        counts: 0x11112711,
+        lowest: PD_SID,
+        highest: PD_SID,
         first: 0,
         last: 0,
     },
     Row {
-        request: 1,
-        least: 2,
-        most: 7,
-        nak: 1,
-        busy: 1,
-        rule: NOT_ZERO,
+        counts: 0x11112711,
+        lowest: 1,
+        highest: HIGHEST_SVID,
         first: 0,
         last: 0,
     },
     Row {
-        request: 2,
-        least: 1,
-        most: 1,
-        nak: 1,
-        busy: 1,
-        rule: NOT_ZERO,
+        counts: 0x11111112,
+        lowest: 1,
+        highest: HIGHEST_SVID,
         first: 1,
         last: 6,
     },
     Row {
-        request: 1,
-        least: 1,
-        most: 1,
-        nak: 1,
-        busy: 1,
-        rule: NOT_ZERO,
+        counts: 0x11111111,
+        lowest: 1,
+        highest: HIGHEST_SVID,
         first: 1,
         last: 7,
     },
     Row {
-        request: 2,
-        least: 1,
-        most: 0,
-        nak: 0,
-        busy: 0,
-        rule: NOT_ZERO,
+        counts: 0x10101012,
+        lowest: 1,
+        highest: HIGHEST_SVID,
         first: 1,
         last: 6,
     },
@@ -118,41 +92,37 @@ fn row_of(command: u8) -> Row
     }
 }
 
-fn least_objects(row: Row, kind: u8) -> u8
-    ensures { λ r. ⌜ r ≡ leastObjects row kind ⌝ }
+fn byte_of(half: u32, kind: u8) -> u32
+    ensures { λ r. ⌜ r ≡ cond (eqb (kind % 2) 0) (half % 256) (half / 256) ⌝ }
 {
-    if kind == ACK { row.least } else { 1 }
-}
-
-fn most_objects(row: Row, kind: u8) -> u8
-    ensures { λ r. ⌜ r ≡ mostObjects row kind ⌝ }
-{
-    match kind {
-        REQ => row.request,
-        ACK => row.most,
-        NAK => row.nak,
-        BUSY => row.busy,
-        _ => 0,
+    if kind % 2 == 0 {
+        half % 256
+    } else {
+        half / 256
     }
 }
 
-fn svid_fits(rule: u8, svid: u16) -> bool
-    ensures { λ r. ⌜ r ≡ svidFits rule svid ⌝ }
+// The digits of one type, by halves: two choices between numbers, and no jump.
+fn counts_of(row: Row, kind: u8) -> u32
+    requires { ⌜ kind < 4 ⌝ }
+    ensures { λ r. ⌜ r ≡ countsOf row kind ⌝ }
 {
-    match rule {
-        ANY_SVID => true,
-        NOT_ZERO => svid != 0,
-        _ => svid == PD_SID,
+    if kind < 2 {
+        byte_of(row.counts % 65536, kind)
+    } else {
+        byte_of(row.counts / 65536, kind)
     }
 }
 
 fn fits(row: Row, head: Head, count: u8) -> bool
+    requires { ⌜ head .kind < 4 ⌝ }
     ensures { λ r. ⌜ r ≡ Table·fits row head count ⌝ }
 {
-    if count < least_objects(row, head.kind) {
+    let counts = counts_of(row, head.kind);
+    if (count as u32) < counts / 16 {
         return false;
     }
-    if most_objects(row, head.kind) < count {
+    if counts % 16 < (count as u32) {
         return false;
     }
     if head.position < row.first {
@@ -161,7 +131,10 @@ fn fits(row: Row, head: Head, count: u8) -> bool
     if row.last < head.position {
         return false;
     }
-    svid_fits(row.rule, head.svid)
+    if head.svid < row.lowest {
+        return false;
+    }
+    head.svid <= row.highest
 }
 
 // Do a head and a number of objects, the header counted, fit the command's row?
@@ -170,6 +143,9 @@ pub fn shape(head: Head, count: u8) -> bool
 {
     let command = head.command;
     if COMMANDS <= command {
+        return false;
+    }
+    if TYPES <= head.kind {
         return false;
     }
     fits(row_of(command), head, count)

@@ -4,77 +4,56 @@ use Rattle.exports.proofs.Laws.{numbers-refused, numbers-accepted}
 use borrow.Author.Needs.{needs}
 use Rattle.exports.proofs.exports_read.Statement.{statement}
 use Rattle.exports.proofs.exports_read.Tie as tie
-use Rattle.exports.proofs.exports_read.Reads as reads
-use Rattle.exports.proofs.exports_read.Lts as lts
-use Rattle.exports.proofs.number.Reads as number-reads
-use Rattle.messages.proofs.read.Reads as read-reads
 
--- src/lib.rt:25:9
 read-requires : tie.Need-read-requires
 read-requires c κs = search needs
 
--- src/lib.rt:27:25
 enum-known-answer : tie.Need-enum-known-answer
 enum-known-answer c = search needs
 
--- src/lib.rt:28:9
 enum-told : tie.Need-enum-told
 enum-told c = search needs
 
--- src/lib.rt:28:9
 number-requires : tie.Need-number-requires
 number-requires c κs = search needs
 
--- src/lib.rt:28:9
 returns : tie.Need-returns
 returns c = numbers-refused (readOutcome (c .before .before .before .before .before .args .bytes .now)) (c .before .before .before .read .result) _ _ (c .before .before .before .before .before .args .into .now) (c .before .before .before .read .ensures) (c .before .enum-told .given .1)
     (c .number .ensures)
 
--- src/lib.rt:32:9
 cast-t8 : tie.Need-cast-t8
 cast-t8 c = search needs
 
--- src/lib.rt:33:9
 cast-t9 : tie.Need-cast-t9
 cast-t9 c = search needs
 
--- src/lib.rt:34:9
 cast-t10 : tie.Need-cast-t10
 cast-t10 c = search needs
 
--- src/lib.rt:35:9
 cast-t11 : tie.Need-cast-t11
 cast-t11 c = search needs
 
--- src/lib.rt:36:9
 cast-t12 : tie.Need-cast-t12
 cast-t12 c = search needs
 
--- src/lib.rt:37:9
 array-read-t15 : tie.Need-array-read-t15
 array-read-t15 c = search needs
 
--- src/lib.rt:38:9
 array-read-t18 : tie.Need-array-read-t18
 array-read-t18 c = search needs
 
--- src/lib.rt:39:9
 array-read-t21 : tie.Need-array-read-t21
 array-read-t21 c = search needs
 
--- src/lib.rt:40:9
 array-read-t24 : tie.Need-array-read-t24
 array-read-t24 c = search needs
 
--- src/lib.rt:41:9
 array-read-t27 : tie.Need-array-read-t27
 array-read-t27 c = search needs
 
--- src/lib.rt:42:9
 array-read-t30 : tie.Need-array-read-t30
 array-read-t30 c = search needs
 
--- src/lib.rt:20:1
 returns-2 : tie.Need-returns-2
 returns-2 c = numbers-accepted (readOutcome (c .before .before .before .before .before .before .before .before .before .before .before .args .bytes .now)) (c .before .before .before .before .before .before .before .before .before .read .result) _ _ (c .before .before .before .before .before .before .before .before .before .before .before .args .into .now) (c .before .before .before .before .before .before .before .before .before .read .ensures) (c .before .before .before .before .before .before .before .answer .given .1)
 

@@ -7,23 +7,17 @@ use Rattle.exports.specs.Numbers.{numberOf}
 use borrow.Author.Needs.{needs}
 use Rattle.exports.proofs.number.Statement.{statement}
 use Rattle.exports.proofs.number.Tie as tie
-use Rattle.exports.proofs.number.Reads as reads
-use Rattle.exports.proofs.number.Lts as lts
 
--- src/lib.rt:13:34
 enum-told : tie.Need-enum-told
 enum-told c = search needs
 
--- src/lib.rt:14:25
 enum-known-answer : tie.Need-enum-known-answer
 enum-known-answer c = search needs
 
--- src/lib.rt:9:1
 returns : tie.Need-returns
 unfolding numberOf
 returns c = sym (ap (λ (a : Answer). numberOf (told a [])) (c .enum-told .given .1))
 
--- src/lib.rt:9:1
 returns-2 : tie.Need-returns-2
 unfolding numberOf
 returns-2 c = sym (ap (λ (a : Answer). numberOf (told a [])) (c .before .answer .given .1))

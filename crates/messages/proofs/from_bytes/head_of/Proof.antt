@@ -3,26 +3,19 @@ use Rattle.messages.proofs.Refusals.{head-of}
 use borrow.Author.Needs.{needs}
 use Rattle.messages.proofs.from_bytes.head_of.Statement.{statement}
 use Rattle.messages.proofs.from_bytes.head_of.Tie as tie
-use Rattle.messages.proofs.from_bytes.head_of.Reads as reads
-use Rattle.messages.proofs.from_bytes.head_of.Lts as lts
 
--- src/from_bytes.rt:19:15
 cast-t3 : tie.Need-cast-t3
 cast-t3 c = search needs
 
--- src/from_bytes.rt:20:18
 cast-t5 : tie.Need-cast-t5
 cast-t5 c = search needs
 
--- src/from_bytes.rt:21:15
 cast-t8 : tie.Need-cast-t8
 cast-t8 c = search needs
 
--- src/from_bytes.rt:22:19
 cast-t11 : tie.Need-cast-t11
 cast-t11 c = search needs
 
--- src/from_bytes.rt:15:1
 returns : tie.Need-returns
 returns c = head-of (c .args .header) (c .fits .header .fits)
 

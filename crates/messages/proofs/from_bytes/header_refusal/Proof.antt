@@ -6,38 +6,27 @@ use Rattle.messages.proofs.Refusals.{lines-2, lines-3, lines-4, lines-5
 use borrow.Author.Needs.{needs}
 use Rattle.messages.proofs.from_bytes.header_refusal.Statement.{statement}
 use Rattle.messages.proofs.from_bytes.header_refusal.Tie as tie
-use Rattle.messages.proofs.from_bytes.header_refusal.Reads as reads
-use Rattle.messages.proofs.from_bytes.header_refusal.Lts as lts
-use Rattle.messages.proofs.from_bytes.head_of.Reads as head-of-reads
-use Rattle.messages.proofs.table.shape.Reads as shape-reads
 
--- src/from_bytes.rt:31:9
 returns : tie.Need-returns
 returns c = lines-2 (c .before .args .header) (c .before .args .count) (c .if1 .taken)
 
--- src/from_bytes.rt:34:9
 returns-2 : tie.Need-returns-2
 returns-2 c = lines-3 (c .before .before .args .header) (c .before .before .args .count) (c .before .if1 .left) (c .if2 .taken)
 
--- src/from_bytes.rt:37:9
 returns-3 : tie.Need-returns-3
 returns-3 c = lines-4 (c .before .before .before .args .header) (c .before .before .before .args .count) (c .before .before .if1 .left) (c .before .if2 .left) (c .if3 .taken)
 
--- src/from_bytes.rt:39:14
 head-of-requires : tie.Need-head-of-requires
 head-of-requires c κs = search needs
 
--- src/from_bytes.rt:39:8
 shape-requires : tie.Need-shape-requires
 shape-requires c κs = search needs
 
--- src/from_bytes.rt:27:1
 returns-4 : tie.Need-returns-4
 returns-4 c = let a = c .before .before .before .before .before .before .args in
     let fits = sym (c .if4 .taken) ∙ c .before .shape .ensures ∙ ap (λ (h : Head). shape h (a .count)) (c .before .before .head-of .ensures) in
     lines-none (a .header) (a .count) (c .before .before .before .before .before .if1 .left) (c .before .before .before .before .if2 .left) (c .before .before .before .if3 .left) fits
 
--- src/from_bytes.rt:27:1
 returns-5 : tie.Need-returns-5
 returns-5 c = let a = c .before .before .before .before .before .before .args in
     let fits = sym (c .if4 .left) ∙ c .before .shape .ensures ∙ ap (λ (h : Head). shape h (a .count)) (c .before .before .head-of .ensures) in

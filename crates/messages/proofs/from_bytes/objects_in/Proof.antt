@@ -3,35 +3,25 @@ use Rattle.messages.proofs.Refusals.{objects-in}
 use borrow.Author.Needs.{needs}
 use Rattle.messages.proofs.from_bytes.objects_in.Statement.{statement}
 use Rattle.messages.proofs.from_bytes.objects_in.Tie as tie
-use Rattle.messages.proofs.from_bytes.objects_in.Reads as reads
-use Rattle.messages.proofs.from_bytes.objects_in.Lts as lts
-use Rattle.messages.proofs.object.object_at.Reads as object-at-reads
 
--- src/from_bytes.rt:56:9
 object-at-requires : tie.Need-object-at-requires
 object-at-requires c κs = search needs
 
--- src/from_bytes.rt:57:9
 object-at-requires-2 : tie.Need-object-at-requires-2
 object-at-requires-2 c κs = search needs
 
--- src/from_bytes.rt:58:9
 object-at-requires-3 : tie.Need-object-at-requires-3
 object-at-requires-3 c κs = search needs
 
--- src/from_bytes.rt:59:9
 object-at-requires-4 : tie.Need-object-at-requires-4
 object-at-requires-4 c κs = search needs
 
--- src/from_bytes.rt:60:9
 object-at-requires-5 : tie.Need-object-at-requires-5
 object-at-requires-5 c κs = search needs
 
--- src/from_bytes.rt:61:9
 object-at-requires-6 : tie.Need-object-at-requires-6
 object-at-requires-6 c κs = search needs
 
--- src/from_bytes.rt:52:1
 returns : tie.Need-returns
 returns c = objects-in (c .before .before .before .before .before .before .before .args .bytes .now) _ _ _ _ _ _ (c .before .before .before .before .before .object-at .ensures) (c .before .before .before .before .object-at2 .ensures) (c .before .before .before .object-at3 .ensures)
     (c .before .before .object-at4 .ensures) (c .before .object-at5 .ensures) (c .object-at6 .ensures)

@@ -1,80 +1,57 @@
 -- `read` meets its promise: its ways out are those of the table of refusals.
-use mathlib.Core.Path.{_∙_, ap, sym}
+use mathlib.Core.Path.{_∙_}
 use Rattle.messages.proofs.Refusals.{short, long, ragged, shown-1, shown-number, shown-message}
 use borrow.Author.Needs.{needs}
 use Rattle.messages.proofs.from_bytes.read.Statement.{statement}
 use Rattle.messages.proofs.from_bytes.read.Tie as tie
-use Rattle.messages.proofs.from_bytes.read.Reads as reads
-use Rattle.messages.proofs.from_bytes.read.Lts as lts
-use Rattle.messages.proofs.from_bytes.head_of.Reads as head-of-reads
-use Rattle.messages.proofs.from_bytes.header_refusal.Reads as header-refusal-reads
-use Rattle.messages.proofs.from_bytes.objects_in.Reads as objects-in-reads
-use Rattle.messages.proofs.from_bytes.refused.Reads as refused-reads
-use Rattle.messages.proofs.object.object_at.Reads as object-at-reads
 
--- src/from_bytes.rt:70:9
 refused-requires : tie.Need-refused-requires
 refused-requires c κs = search needs
 
--- src/from_bytes.rt:70:9
 returns : tie.Need-returns
 returns c = let b = c .before .before .before .args .bytes .now in c .refused .ensures ∙ shown-1 b (short _ (c .before .if1 .taken))
 
--- src/from_bytes.rt:73:9
 refused-requires-2 : tie.Need-refused-requires-2
 refused-requires-2 c κs = search needs
 
--- src/from_bytes.rt:73:9
 returns-2 : tie.Need-returns-2
 returns-2 c = let b = c .before .before .before .before .args .bytes .now in c .refused2 .ensures ∙ shown-1 b (long _ (c .before .before .if1 .left) (c .before .if2 .taken))
 
--- src/from_bytes.rt:76:9
 refused-requires-3 : tie.Need-refused-requires-3
 refused-requires-3 c κs = search needs
 
--- src/from_bytes.rt:76:9
 returns-3 : tie.Need-returns-3
 returns-3 c = let b = c .before .before .before .before .before .args .bytes .now in c .refused3 .ensures ∙ shown-1 b (ragged _ (c .before .before .before .if1 .left) (c .before .before .if2 .left) (c .before .if3 .taken))
 
--- src/from_bytes.rt:78:9
 object-at-requires : tie.Need-object-at-requires
 object-at-requires c κs = search needs
 
--- src/from_bytes.rt:79:41
 cast-header-refusal : tie.Need-cast-header-refusal
 cast-header-refusal c = search needs
 
--- src/from_bytes.rt:79:9
 header-refusal-requires : tie.Need-header-refusal-requires
 header-refusal-requires c κs = search needs
 
--- src/from_bytes.rt:81:9
 refused-requires-4 : tie.Need-refused-requires-4
 refused-requires-4 c κs = search needs
 
--- src/from_bytes.rt:81:9
 returns-4 : tie.Need-returns-4
 returns-4 c = let b = c .before .before .before .before .before .before .before .before .args .bytes .now in
     c .refused4 .ensures ∙
     shown-number b (c .before .before .before .before .before .before .if1 .left) (c .before .before .before .before .before .if2 .left) (c .before .before .before .before .if3 .left) _ _ (c .before .before .before .object-at .ensures) (c .before .before .header-refusal .ensures) (c .before .if4 .taken)
 
--- src/from_bytes.rt:84:33
 head-of-requires : tie.Need-head-of-requires
 head-of-requires c κs = search needs
 
--- src/from_bytes.rt:84:51
 sub-t9 : tie.Need-sub-t9
 sub-t9 c = search needs
 
--- src/from_bytes.rt:84:50
 cast-t7 : tie.Need-cast-t7
 cast-t7 c = search needs
 
--- src/from_bytes.rt:85:18
 objects-in-requires : tie.Need-objects-in-requires
 objects-in-requires c κs = search needs
 
--- src/from_bytes.rt:65:1
 returns-5 : tie.Need-returns-5
 returns-5 c = let b = c .before .before .before .before .before .before .before .before .before .args .bytes .now in
     shown-message b (c .before .before .before .before .before .before .before .if1 .left) (c .before .before .before .before .before .before .if2 .left) (c .before .before .before .before .before .if3 .left) _ _ (c .before .before .before .before .object-at .ensures) (c .before .before .before .header-refusal .ensures) (c .before .before .if4 .left) _ _

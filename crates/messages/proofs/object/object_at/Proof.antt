@@ -1,59 +1,43 @@
 -- `object_at` meets its promise: the bytes it joins are those of object i, and past the end there is none.
 use mathlib.Core.Path.{_∙_, sym}
-use native.Mathlib.Omega.{arith}
 use Rattle.messages.proofs.Objects.{object-at, object-past}
 use borrow.Author.Needs.{needs}
 use Rattle.messages.proofs.object.object_at.Statement.{statement}
 use Rattle.messages.proofs.object.object_at.Tie as tie
-use Rattle.messages.proofs.object.object_at.Reads as reads
-use Rattle.messages.proofs.object.object_at.Lts as lts
-use Rattle.messages.proofs.object.joined.Reads as joined-reads
 
--- src/object.rt:18:14
 mul-at : tie.Need-mul-at
 mul-at c = search needs
 
--- src/object.rt:19:8
 add-if1 : tie.Need-add-if1
 add-if1 c = search needs
 
--- src/object.rt:20:23
 shared-slice-read-joined : tie.Need-shared-slice-read-joined
 shared-slice-read-joined c = search needs
 
--- src/object.rt:20:40
 add-joined : tie.Need-add-joined
 add-joined c = search needs
 
--- src/object.rt:20:34
 shared-slice-read-joined-2 : tie.Need-shared-slice-read-joined-2
 shared-slice-read-joined-2 c = search needs
 
--- src/object.rt:20:55
 add-joined-2 : tie.Need-add-joined-2
 add-joined-2 c = search needs
 
--- src/object.rt:20:49
 shared-slice-read-joined-3 : tie.Need-shared-slice-read-joined-3
 shared-slice-read-joined-3 c = search needs
 
--- src/object.rt:20:70
 add-joined-3 : tie.Need-add-joined-3
 add-joined-3 c = search needs
 
--- src/object.rt:20:64
 shared-slice-read-joined-4 : tie.Need-shared-slice-read-joined-4
 shared-slice-read-joined-4 c = search needs
 
--- src/object.rt:20:9
 joined-requires : tie.Need-joined-requires
 joined-requires c κs = search needs
 
--- src/object.rt:20:9
 returns : tie.Need-returns
 returns c = c .joined .ensures ∙ sym (object-at (c .before .before .before .before .before .before .before .args .bytes .now) (c .before .before .before .before .before .before .before .args .i) (c .before .before .before .before .before .if1 .taken))
 
--- src/object.rt:14:1
 returns-2 : tie.Need-returns-2
 returns-2 c = sym (object-past (c .before .before .args .bytes .now) (c .before .before .args .i) (c .if1 .left))
 

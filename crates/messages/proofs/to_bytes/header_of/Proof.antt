@@ -4,54 +4,40 @@ use Rattle.messages.specs.Layout.{headerOf}
 use borrow.Author.Needs.{needs}
 use Rattle.messages.proofs.to_bytes.header_of.Statement.{statement}
 use Rattle.messages.proofs.to_bytes.header_of.Tie as tie
-use Rattle.messages.proofs.to_bytes.header_of.Reads as reads
-use Rattle.messages.proofs.to_bytes.header_of.Lts as lts
 
--- src/to_bytes.rt:17:6
 cast-result : tie.Need-cast-result
 cast-result c = search needs
 
--- src/to_bytes.rt:17:5
 mul-result : tie.Need-mul-result
 mul-result c = search needs
 
--- src/to_bytes.rt:17:5
 add-result : tie.Need-add-result
 add-result c = search needs
 
--- src/to_bytes.rt:19:12
 cast-result-2 : tie.Need-cast-result-2
 cast-result-2 c = search needs
 
--- src/to_bytes.rt:19:11
 mul-result-2 : tie.Need-mul-result-2
 mul-result-2 c = search needs
 
--- src/to_bytes.rt:17:5
 add-result-2 : tie.Need-add-result-2
 add-result-2 c = search needs
 
--- src/to_bytes.rt:20:12
 cast-result-3 : tie.Need-cast-result-3
 cast-result-3 c = search needs
 
--- src/to_bytes.rt:20:11
 mul-result-3 : tie.Need-mul-result-3
 mul-result-3 c = search needs
 
--- src/to_bytes.rt:17:5
 add-result-3 : tie.Need-add-result-3
 add-result-3 c = search needs
 
--- src/to_bytes.rt:21:12
 cast-result-4 : tie.Need-cast-result-4
 cast-result-4 c = search needs
 
--- src/to_bytes.rt:17:5
 add-result-4 : tie.Need-add-result-4
 add-result-4 c = search needs
 
--- src/to_bytes.rt:13:1
 returns : tie.Need-returns
 unfolding headerOf
 returns c = omega arith

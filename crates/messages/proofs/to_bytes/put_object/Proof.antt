@@ -5,58 +5,43 @@ use Rattle.messages.proofs.Stores.{store-object}
 use borrow.Author.Needs.{needs}
 use Rattle.messages.proofs.to_bytes.put_object.Statement.{statement}
 use Rattle.messages.proofs.to_bytes.put_object.Tie as tie
-use Rattle.messages.proofs.to_bytes.put_object.Reads as reads
-use Rattle.messages.proofs.to_bytes.put_object.Lts as lts
 
--- src/to_bytes.rt:28:15
 cast-out : tie.Need-cast-out
 cast-out c = search needs
 
--- src/to_bytes.rt:28:5
 slice-write-out : tie.Need-slice-write-out
 slice-write-out c = search needs
 
--- src/to_bytes.rt:29:19
 cast-out-2 : tie.Need-cast-out-2
 cast-out-2 c = search needs
 
--- src/to_bytes.rt:29:9
 add-out : tie.Need-add-out
 add-out c = search needs
 
--- src/to_bytes.rt:29:5
 slice-write-out-2 : tie.Need-slice-write-out-2
 slice-write-out-2 c = simp length-set (omega arith)
 
--- src/to_bytes.rt:30:19
 cast-out-3 : tie.Need-cast-out-3
 cast-out-3 c = search needs
 
--- src/to_bytes.rt:30:9
 add-out-2 : tie.Need-add-out-2
 add-out-2 c = search needs
 
--- src/to_bytes.rt:30:5
 slice-write-out-3 : tie.Need-slice-write-out-3
 slice-write-out-3 c = simp length-set (omega arith)
 
--- src/to_bytes.rt:31:19
 cast-out-4 : tie.Need-cast-out-4
 cast-out-4 c = search needs
 
--- src/to_bytes.rt:31:9
 add-out-3 : tie.Need-add-out-3
 add-out-3 c = search needs
 
--- src/to_bytes.rt:31:5
 slice-write-out-4 : tie.Need-slice-write-out-4
 slice-write-out-4 c = simp length-set (omega arith)
 
--- src/to_bytes.rt:24:1
 same-length : tie.Need-same-length
 same-length c = search needs
 
--- src/to_bytes.rt:24:1
 returns : tie.Need-returns
 returns c = store-object (c .args .out .now) (c .args .at) (c .args .object)
 

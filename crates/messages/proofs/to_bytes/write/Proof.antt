@@ -3,7 +3,6 @@ use lib.ListN.{length}
 use Rattle.messages.specs.Layout.{messageBytes}
 -- `write` meets its promise: its ways out are the definition's, and nothing is stored before the last test.
 use mathlib.Core.Path.{_∙_, ap, sym}
-use mathlib.Core.List.{List}
 use Prim.Native.Nat.{ℕ}
 use native.Mathlib.Omega.{arith}
 use lib.Seq.{sets}
@@ -14,62 +13,44 @@ use Rattle.messages.proofs.Stores.{length-message, store-message, write
 use borrow.Author.Needs.{needs}
 use Rattle.messages.proofs.to_bytes.write.Statement.{statement}
 use Rattle.messages.proofs.to_bytes.write.Tie as tie
-use Rattle.messages.proofs.to_bytes.write.Reads as reads
-use Rattle.messages.proofs.to_bytes.write.Lts as lts
-use Rattle.messages.proofs.table.shape.Reads as shape-reads
-use Rattle.messages.proofs.to_bytes.header_of.Reads as header-of-reads
-use Rattle.messages.proofs.to_bytes.put_object.Reads as put-object-reads
-use Rattle.messages.proofs.to_bytes.put_objects.Reads as put-objects-reads
 
--- src/to_bytes.rt:51:9
 returns : tie.Need-returns
 returns c = write-shape _ (c .before .before .before .args .out .now) (shape-many _ (c .if1 .taken))
 
--- src/to_bytes.rt:53:21
 add-shape : tie.Need-add-shape
 add-shape c = search needs
 
--- src/to_bytes.rt:53:20
 cast-shape : tie.Need-cast-shape
 cast-shape c = search needs
 
--- src/to_bytes.rt:53:8
 shape-requires : tie.Need-shape-requires
 shape-requires c κs = search needs
 
--- src/to_bytes.rt:54:24
 mul-if3 : tie.Need-mul-if3
 mul-if3 c = search needs
 
--- src/to_bytes.rt:54:24
 add-if3 : tie.Need-add-if3
 add-if3 c = search needs
 
--- src/to_bytes.rt:55:13
 returns-2 : tie.Need-returns-2
 unfolding wellShaped
 returns-2 c = let m : Message = record { head = c .before .before .before .before .before .before .args .head; objects = c .before .before .before .before .before .before .args .objects .now } in
     write-short m (c .before .before .before .before .before .before .args .out .now) (sym (c .before .before .shape .ensures) ∙ c .before .if2 .taken) (omega (arith, length-message m))
 
--- src/to_bytes.rt:57:28
 header-of-requires : tie.Need-header-of-requires
 header-of-requires c κs = let h = c .before .before .before .before .before .before .before .args .head in
     let good = sym (c .before .before .before .shape .ensures) ∙ c .before .before .if2 .taken in
     (shape-command h _ good, shape-kind h _ good, shape-position h _ good)
 
--- src/to_bytes.rt:57:9
 put-object-requires : tie.Need-put-object-requires
 put-object-requires c κs = search needs
 
--- src/to_bytes.rt:58:9
 put-objects-requires : tie.Need-put-objects-requires
 put-objects-requires c κs = search needs
 
--- src/to_bytes.rt:59:9
 same-length : tie.Need-same-length
 same-length c = search needs
 
--- src/to_bytes.rt:59:9
 returns-3 : tie.Need-returns-3
 unfolding wellShaped
 returns-3 c = let m : Message = record { head = c .before .before .before .before .before .before .before .before .before .before .before .before .before .before .before .args .head; objects = c .before .before .before .before .before .before .before .before .before .before .before .before .before .before .before .args .objects .now } in
@@ -78,7 +59,6 @@ returns-3 c = let m : Message = record { head = c .before .before .before .befor
     write-whole m out (sym (c .before .before .before .before .before .before .before .before .before .before .before .shape .ensures) ∙ c .before .before .before .before .before .before .before .before .before .before .if2 .taken) room _
     (store-message m out _ _ room (c .before .before .before .before .before .before .put-object .ensures ∙ ap (λ (w : ℕ). sets out 0 (bytesOfObject w)) (c .before .before .before .before .before .before .before .header-of .ensures)) (c .before .before .put-objects .ensures))
 
--- src/to_bytes.rt:46:1
 returns-4 : tie.Need-returns-4
 unfolding wellShaped
 returns-4 c = let m : Message = record { head = c .before .before .before .before .before .args .head; objects = c .before .before .before .before .before .args .objects .now } in

@@ -6,7 +6,7 @@ use lib.ListN.{length, getD}
 use Rattle.laws.specs.Padded.{padded}
 use Rattle.laws.proofs.Padded.{padded-at}
 use Rattle.messages.specs.Layout.{Message}
-use Rattle.messages.specs.Reading.{Outcome, accepted, refused, shown, told}
+use Rattle.messages.specs.Reading.{Outcome, accepted, refused, shown, answerNumber}
 use Rattle.messages.specs.declared.Answer.{Answer}
 use Rattle.messages.specs.declared.Answer.the-variants.{Refused}
 use Rattle.messages.specs.declared.Answer.the-variants.{Message as Answer·Message}
@@ -16,11 +16,11 @@ use Rattle.messages.proofs.Laws.{answer-refused, answer-message}
 use Rattle.exports.specs.Numbers.{numberOf, numbersOf}
 
 pub numbers-refused : (o : Outcome) (r : Reading) (n k : ℕ) (into : List ℕ) → r ≡ shown o → r .answer ≡ Refused n →
-    k ≡ numberOf (told (r .answer) []) → (k ≡ numberOf o) × (into ≡ numbersOf o into)
+    k ≡ answerNumber (r .answer) → (k ≡ numberOf o) × (into ≡ numbersOf o into)
 unfolding numberOf numbersOf
 numbers-refused o r n k into e a number =
     let is : o ≡ refused n = answer-refused o r n e a in
-    (number ∙ ap (λ (x : Answer). numberOf (told x [])) a ∙ ap numberOf (sym is), ap (λ (x : Outcome). numbersOf x into) (sym is))
+    (number ∙ ap answerNumber a ∙ ap numberOf (sym is), ap (λ (x : Outcome). numbersOf x into) (sym is))
 
 abbrev eleven : Head → ℕ → List ℕ → List ℕ
 eleven h n l =

@@ -1,19 +1,8 @@
 // The proved library for Rust and C to link: thin functions on numbers and slices.
 ghost use mathlib.Core.Path.{_≡_};
-ghost use mathlib.Core.List.{[]};
-ghost use Rattle.messages.specs.Reading.{readOutcome, told};
+ghost use Rattle.messages.specs.Reading.{readOutcome};
 ghost use Rattle.exports.specs.Numbers.{numberOf, numbersOf};
 use messages::Answer;
-use messages::Head;
-
-fn number(answer: Answer) -> u8
-    ensures { λ r. ⌜ r ≡ numberOf (told answer []) ⌝ }
-{
-    match answer {
-        Answer::Message(_, _) => 0,
-        Answer::Refused(number) => number,
-    }
-}
 
 // Reads a message. Accepted, it is 0, and `into` has SVID, command, type, position, number of objects after the header, and six objects;
 // refused, it is the number, and `into` stays.
@@ -25,7 +14,7 @@ pub extern "C" fn exports_read(bytes: &[u8], into: &mut [u32; 11]) -> u8
     let reading = messages::read(bytes);
     let answer = reading.answer;
     let Answer::Message(head, count) = answer else {
-        return number(answer);
+        return messages::number(answer);
     };
     let objects = reading.objects;
     *into = [

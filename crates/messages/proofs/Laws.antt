@@ -15,7 +15,7 @@ use Rattle.laws.proofs.Lines.{first-line, first-at}
 use Rattle.laws.proofs.Padded.{take-padded}
 use Rattle.messages.specs.Layout.{headOf, Message, Representable, messageBytes, withOurVersion}
 use Rattle.messages.specs.Table.{rowOf, countsOf, shape, allowed, firstHead}
-use Rattle.messages.specs.Reading.{headerIn, readLines, readRefusal, messageIn, Outcome, accepted, refused, outcome, readOutcome, shown, told}
+use Rattle.messages.specs.Reading.{headerIn, readLines, readRefusal, messageIn, Outcome, accepted, refused, outcome, readOutcome, shown}
 use Rattle.messages.specs.Writing.{wellShaped, writeRefusal, written, Written}
 use Rattle.messages.specs.declared.Answer.the-variants.{Refused}
 use Rattle.messages.specs.declared.Answer.the-variants.{Message as Answer·Message}
@@ -84,15 +84,6 @@ pub write-only : (m : Message) (out : List ℕ) (number number′ : ℕ) (after 
     Written m out number after → Written m out number′ after′ → (number ≡ number′) × (after ≡ after′)
 write-only m out number number′ after after′ w w′ =
     (w .number-is ∙ sym (w′ .number-is), w .buffer-is ∙ sym (w′ .buffer-is))
-
--- the code's answer tells the outcome
-pub read-told : (b : List ℕ) (r : Reading) → r ≡ shown (readOutcome b) → told (r .answer) (r .objects) ≡ readOutcome b
-unfolding shown
-read-told b r e = ap (λ (s : Reading). told (s .answer) (s .objects)) e ∙ go (readOutcome b) refl
-  where
-    go : (o : Outcome) → readOutcome b ≡ o → told (shown o .answer) (shown o .objects) ≡ o
-    go (accepted m) is = ap (λ (l : List ℕ). accepted (record { head = m .head; objects = l })) (take-padded (m .objects) (accepted-objects b m is))
-    go (refused number) is = refl
 
 -- for whoever takes the answer apart: each case of it is one of the outcome
 pub answer-refused : (o : Outcome) (r : Reading) (number : ℕ) → r ≡ shown o → r .answer ≡ Refused number → o ≡ refused number

@@ -3,7 +3,7 @@ use Prim.Native.Nat.{ℕ, _/_, _%_}
 use mathlib.Core.Bool.{Bool, cond, not, _&&_}
 use mathlib.Core.List.{List, [], _∷_}
 use lib.Dec.{leb, eqb}
-use lib.ListN.{length, getD, take, drop, replicate}
+use lib.ListN.{length, getD, drop, replicate}
 use Rattle.laws.specs.Lines.{firstLine}
 use Rattle.laws.specs.Padded.{padded}
 use Rattle.messages.specs.Layout.{objectsOf, structured, major, reserved, headOf, Message}
@@ -66,11 +66,12 @@ readOutcome b = outcome (readRefusal b) (messageIn b)
 abbrev pub objectsIn : List ℕ → List ℕ
 objectsIn b = padded (drop 1 (objectsOf b))
 
--- how the code's answer shows an outcome, and what an answer tells: 01's number, or its values
+-- how the code's answer shows an outcome: 01's number, or its values
 unfoldable pub shown : Outcome → Reading
 shown (accepted m) = record { answer = Answer·Message (m .head) (length (m .objects)); objects = padded (m .objects) }
 shown (refused number) = record { answer = Refused number; objects = replicate 6 0 }
 
-abbrev pub told : Answer → List ℕ → Outcome
-told (Answer·Message h count) objects = accepted (record { head = h; objects = take count objects })
-told (Refused number) objects = refused number
+-- the refusal number of an answer, 0 for a message
+abbrev pub answerNumber : Answer → ℕ
+answerNumber (Answer·Message h count) = 0
+answerNumber (Refused number) = number

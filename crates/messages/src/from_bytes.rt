@@ -4,7 +4,7 @@ ghost use mathlib.Core.List.{List, [], _∷_};
 ghost use lib.ListN.{getD};
 ghost use Rattle.laws.specs.Lines.{firstLine};
 ghost use Rattle.messages.specs.Layout.{objectsOf, headOf};
-ghost use Rattle.messages.specs.Reading.{headerLines, objectsIn, readOutcome, shown};
+ghost use Rattle.messages.specs.Reading.{headerLines, objectsIn, readOutcome, shown, answerNumber};
 ghost use Rattle.messages.specs.Reading.{refused as Outcome·refused};
 use crate::Answer;
 use crate::Head;
@@ -83,5 +83,15 @@ pub fn read(bytes: &[u8]) -> Reading
     Reading {
         answer: Answer::Message(head_of(header), (n / 4 - 1) as u8),
         objects: objects_in(bytes),
+    }
+}
+
+// The refusal number of an answer, 0 for a message.
+pub fn number(answer: Answer) -> u8
+    ensures { λ r. ⌜ r ≡ answerNumber answer ⌝ }
+{
+    match answer {
+        Answer::Message(_, _) => 0,
+        Answer::Refused(number) => number,
     }
 }

@@ -4,6 +4,7 @@ mod object;
 mod table;
 mod to_bytes;
 
+pub use from_bytes::number;
 pub use from_bytes::read;
 pub use to_bytes::write;
 

@@ -1,0 +1,3 @@
+-- Laws on pages, a file for each topic.
+pub mod Laws
+pub mod Making

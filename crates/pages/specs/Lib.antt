@@ -1,0 +1,2 @@
+-- Document 01, "The dock end": the pages of a list of SVIDs, which both ends share.
+pub mod Pages

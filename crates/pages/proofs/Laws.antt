@@ -1,18 +1,18 @@
 -- What the pages of a list are, for both ends.
 use mathlib.Core.Logic.{_↔_}
 use mathlib.Core.Path.{_≡_, refl, ap, ap₂, sym, _∙_}
-use mathlib.Core.Bool.{Bool, true, false, cond, false≢true}
+use mathlib.Core.Bool.{Bool, true, false, cond}
 use mathlib.Core.List.{List, [], _∷_, _++_, append-assoc, append-nil}
 use Prim.Native.Nat.{ℕ, zero, suc, _+_, _*_, _-_, _/_, _%_, _^_, _<_, _≤_}
 use native.Mathlib.Omega.{arith}
-use native.Mathlib.Numerals.{add-one}
-use lib.Dec.{leb, ltb, eqb}
-use lib.ListN.{length, getD, take, drop, replicate, length-drop, length-take}
-use lib.Seq.{getD-drop, getD-take, take-all, take-add, length-take-le}
-use borrow.Author.Tests.{ltb-true, ltb-false, lt-ltb, le-ltb, le-leb, lt-leb, leb-true, leb-false, ne-eqb}
+use lib.Dec.{leb, ltb}
+use lib.ListN.{length, take, replicate, length-drop, length-take}
+use lib.Seq.{getD-drop, getD-take, take-all, take-add}
+use borrow.Author.Tests.{ltb-true, ltb-false, lt-ltb, le-leb, lt-leb, leb-true, leb-false, ne-eqb}
 use Rattle.laws.specs.Bounded.{Below}
-use Rattle.laws.proofs.Fields.{field}
-use Rattle.pages.specs.Pages.{perPage, paired, halves, remaining, ending, values, page, isLast, pages, readOff, readPages, NoZero}
+use Rattle.laws.proofs.Padded.{take-padded}
+use Rattle.pages.specs.Pages.{paired, halves, remaining, ending, values, page, isLast, pages, readOff, readPages, NoZero, shownPage}
+use Rattle.pages.specs.declared.Page.{Page}
 use Rattle.pages.proofs.Making.{length-page, length-values-full, length-values-last, values-below}
 
 -- no page but the last ends the list, and the last is page n / 12: a list that is not empty has n / 12 + 1 pages
@@ -35,6 +35,12 @@ page-size list p = go (leb 12 (length (remaining list p))) refl
         let short = leb-false 12 (length (remaining list p)) e in
         let last = length-values-last (remaining list p) short in
         (omega (arith, length-page list p), omega (arith, length-page list p))
+
+-- the objects that the code hands over are the page
+pub shown-objects : (list : List ℕ) (p : ℕ) (made : Page) → made ≡ shownPage (page list p) → take (made .count) (made .objects) ≡ page list p
+unfolding shownPage
+shown-objects list p made e =
+    ap (λ (m : Page). take (m .count) (m .objects)) e ∙ take-padded (page list p) (page-size list p .1)
 
 -- pairs of values, read again
 halves-paired : (vs : List ℕ) → Below (2 ^ 16) vs → length vs % 2 ≡ 0 → halves (paired vs) ≡ vs

@@ -5,13 +5,13 @@ use mathlib.Core.List.{List, [], _∷_, _++_}
 use Prim.Native.Nat.{ℕ, zero, suc, _+_, _*_, _-_, _/_, _%_, _^_, _<_, _≤_}
 use native.Mathlib.Omega.{arith}
 use lib.Dec.{leb, ltb}
-use lib.ListN.{length, getD, take, drop, replicate, length-append, length-drop, length-replicate, List·getD-eq-default, List·getD-append}
-use lib.Seq.{getD-drop, getD-take, getD-append-add, length-take-le}
+use lib.ListN.{length, getD, take, replicate, length-append, length-drop, length-replicate}
+use lib.Seq.{getD-drop, getD-take, length-take-le}
 use borrow.Author.Tests.{ltb-true, ltb-false, le-leb, lt-leb, lt-ltb, le-ltb}
 use Rattle.laws.specs.Bounded.{Below}
 use Rattle.laws.specs.Padded.{padded}
 use Rattle.laws.proofs.Padded.{padded-at}
-use Rattle.pages.specs.Pages.{perPage, paired, remaining, ending, values, page, isLast, pairAt, pairsFrom, shownPage}
+use Rattle.pages.specs.Pages.{paired, remaining, ending, values, page, isLast, pairAt, pairsFrom, shownPage}
 use Rattle.pages.specs.declared.Page.{Page}
 
 -- the object at j has the values at 2j and after it

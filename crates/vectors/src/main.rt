@@ -1,21 +1,20 @@
 // Answers the vectors on standard input: each asks the message library to read or to write one
 // message, and gets one line on standard output.
-mod input;
-mod line;
 mod read_vector;
 mod write_vector;
 
-use input::fill;
 use libc::STDOUT_FILENO;
-use line::append;
-use line::append_decimal;
-use line::empty_line;
-use line::print_line;
+use text::input::fill;
+use text::line::print_last;
 
 // The kinds of vector.
 const READ: u8 = 1;
 
 const WRITE: u8 = 2;
+
+// The longest line answers a write: a number of seven digits, " write ", a refusal of three digits,
+// a space, 255 bytes of two digits each and the line end.
+const LONGEST: usize = 529;
 
 // A proved loop has to end, and nothing says that the input does. So after this many vectors the
 // input counts as ended.
@@ -73,20 +72,12 @@ fn answer_all() -> Finish {
     }
 }
 
-fn print_last(start: &[u8], answered: u64) {
-    let mut line = empty_line();
-    let at = append(&mut line, 0, start);
-    let at = append_decimal(&mut line, at, answered);
-    let at = append(&mut line, at, b" vectors\n");
-    print_line(&line, at);
-}
-
 fn print_finish(finish: Finish) {
     let step = finish.step;
     match step {
-        Step::Unknown => print_last(b"unknown kind after ", finish.answered),
-        Step::Cut => print_last(b"cut after ", finish.answered),
-        _ => print_last(b"end ", finish.answered),
+        Step::Unknown => print_last(b"unknown kind after ", finish.answered, b" vectors\n"),
+        Step::Cut => print_last(b"cut after ", finish.answered, b" vectors\n"),
+        _ => print_last(b"end ", finish.answered, b" vectors\n"),
     }
 }
 

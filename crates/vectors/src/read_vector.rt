@@ -1,21 +1,17 @@
 // A read vector: the length of a message, then its bytes.
-use crate::input::GREATEST;
-use crate::input::fill;
-use crate::input::length_of;
-use crate::line::append;
-use crate::line::append_decimal;
-use crate::line::append_half;
-use crate::line::append_words;
-use crate::line::empty_line;
-use crate::line::print_line;
+use crate::LONGEST;
 use messages::Answer;
 use messages::Head;
 use messages::Reading;
-
-fn append_field(line: &mut [u8], at: usize, field: u8) -> usize {
-    let at = append(line, at, b" ");
-    append_decimal(line, at, field as u64)
-}
+use text::input::GREATEST;
+use text::input::fill;
+use text::input::length_of;
+use text::line::append;
+use text::line::append_decimal;
+use text::line::append_field;
+use text::line::append_half;
+use text::line::append_words;
+use text::line::print_line;
 
 fn append_head(line: &mut [u8], at: usize, head: Head) -> usize {
     let at = append(line, at, b"0 ");
@@ -46,7 +42,7 @@ fn append_reading(line: &mut [u8], at: usize, reading: Reading) -> usize {
 }
 
 fn print_answer(number: u64, reading: Reading) {
-    let mut line = empty_line();
+    let mut line = [0u8; LONGEST];
     let at = append_decimal(&mut line, 0, number);
     let at = append(&mut line, at, b" read ");
     let at = append_reading(&mut line, at, reading);

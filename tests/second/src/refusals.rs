@@ -6,4 +6,7 @@ pub const NOT_STRUCTURED: u8 = 2;
 pub const UNREAD_MAJOR: u8 = 3;
 pub const RESERVED_BIT: u8 = 4;
 pub const WRONG_SHAPE: u8 = 5;
+pub const NOT_AWAITED: u8 = 6;
+pub const NOT_TAKEN_NOW: u8 = 9;
+pub const BROKEN_LIMITS: u8 = 10;
 pub const SHORT_BUFFER: u8 = 11;

@@ -3,43 +3,32 @@ use Rattle.pages.proofs.Making.{shown-page, count-past, count-full, cou
 use borrow.Author.Needs.{needs}
 use Rattle.pages.proofs.make_page.Statement.{statement}
 use Rattle.pages.proofs.make_page.Tie as tie
-use Rattle.pages.proofs.make_page.Reads as reads
-use Rattle.pages.proofs.make_page.Lts as lts
-use Rattle.pages.proofs.pairs_from.Reads as pairs-from-reads
 
--- src/lib.rt:48:14
 mul-at : tie.Need-mul-at
 mul-at c = search needs
 
--- src/lib.rt:49:9
 pairs-from-requires : tie.Need-pairs-from-requires
 pairs-from-requires c κs = search needs
 
--- src/lib.rt:51:9
 returns : tie.Need-returns
 returns c = let l = c .before .before .before .args .list .now in
     let p = c .before .before .before .args .page in
     shown-page l p _ _ (c .before .pairs-from .ensures) (count-past l p (c .if1 .taken))
 
--- src/lib.rt:53:16
 sub-rest : tie.Need-sub-rest
 sub-rest c = search needs
 
--- src/lib.rt:55:9
 returns-2 : tie.Need-returns-2
 returns-2 c = let l = c .before .before .before .before .args .list .now in
     let p = c .before .before .before .before .args .page in
     shown-page l p _ _ (c .before .before .pairs-from .ensures) (count-full l p (c .if2 .taken))
 
--- src/lib.rt:59:17
 add-t8 : tie.Need-add-t8
 add-t8 c = search needs
 
--- src/lib.rt:59:16
 cast-t9 : tie.Need-cast-t9
 cast-t9 c = search needs
 
--- src/lib.rt:45:1
 returns-3 : tie.Need-returns-3
 returns-3 c = let l = c .before .before .before .before .args .list .now in
     let p = c .before .before .before .before .args .page in

@@ -1,34 +1,17 @@
 //! Answers a stream of vectors, a line each.
 
-use super::{Stop, Vector};
+use super::Vector;
 use crate::messages;
 use crate::refusals::ACCEPTED;
+use crate::stream::{print_hex, print_lines, UNWRITTEN};
 use std::io::{self, BufRead, Write};
-
-/// After so many vectors the input counts as ended.
-const MOST_VECTORS: usize = 1_000_000;
-/// What an output buffer holds before the call.
-const UNWRITTEN: u8 = 0x5A;
 
 pub fn print_answers(input: &mut impl BufRead, output: &mut impl Write) -> io::Result<()> {
     writeln!(output, "vector answer")?;
-    let mut answered = 0;
-    let stop = loop {
-        if answered == MOST_VECTORS {
-            break Stop::End;
-        }
-        match Vector::take(input) {
-            Ok(vector) => print_answer(answered + 1, &vector, output)?,
-            Err(stop) => break stop,
-        }
-        answered += 1;
-    };
-    match stop {
-        Stop::End => writeln!(output, "end {answered} vectors"),
-        Stop::UnknownKind => writeln!(output, "unknown kind after {answered} vectors"),
-        Stop::Cut => writeln!(output, "cut after {answered} vectors"),
-        Stop::Failed(error) => Err(error),
-    }
+    print_lines("vectors", input, output, |number, input, output| {
+        let vector = Vector::take(input)?;
+        Ok(print_answer(number, &vector, output)?)
+    })
 }
 
 fn print_answer(number: usize, vector: &Vector, output: &mut impl Write) -> io::Result<()> {
@@ -76,7 +59,5 @@ fn print_buffer(buffer: &[u8], output: &mut impl Write) -> io::Result<()> {
         return Ok(());
     }
     write!(output, " ")?;
-    buffer
-        .iter()
-        .try_for_each(|byte| write!(output, "{byte:02X}"))
+    print_hex(buffer, output)
 }

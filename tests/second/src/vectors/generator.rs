@@ -1,7 +1,7 @@
 //! Makes the vectors: every row of 01's table and its edges, then damage of every kind.
 
-use super::header::{samples, Header, LAST_MINOR, LAST_READ_MAJOR};
 use super::Vector;
+use crate::header::{samples, Header, LAST_MINOR, LAST_READ_MAJOR};
 use crate::messages::{
     ACK, BUSY, EXIT, IDENTITY, LAST_COMMAND, LAST_KIND, LAST_POSITION, MOST_OBJECTS, NAK,
     OBJECT_BYTES, PD_SID, REQ, SVIDS,

@@ -2,8 +2,7 @@
 
 pub mod answers;
 pub mod generator;
-mod header;
 pub mod tally;
 mod vector;
 
-pub use vector::{Stop, Vector};
+pub use vector::Vector;

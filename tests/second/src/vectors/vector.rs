@@ -1,6 +1,7 @@
 //! One vector of the stream that both implementations answer, and its form as bytes.
 
-use std::io::{self, BufRead, ErrorKind, Read, Write};
+use crate::stream::{count_byte, put_objects, take_bytes, take_kind, take_objects, take_run, Stop};
+use std::io::{self, BufRead, Read, Write};
 
 const READ: u8 = 0x01;
 const WRITE: u8 = 0x02;
@@ -19,29 +20,9 @@ pub enum Vector {
     },
 }
 
-/// Why the stream gives no further vector.
-pub enum Stop {
-    End,
-    UnknownKind,
-    Cut,
-    Failed(io::Error),
-}
-
-impl From<io::Error> for Stop {
-    fn from(error: io::Error) -> Self {
-        match error.kind() {
-            ErrorKind::UnexpectedEof => Stop::Cut,
-            _ => Stop::Failed(error),
-        }
-    }
-}
-
 impl Vector {
     pub fn take(input: &mut impl BufRead) -> Result<Self, Stop> {
-        let Some(kind) = input.by_ref().bytes().next() else {
-            return Err(Stop::End);
-        };
-        match kind? {
+        match take_kind(input)? {
             READ => Self::take_read(input),
             WRITE => Self::take_write(input),
             _ => Err(Stop::UnknownKind),
@@ -50,30 +31,27 @@ impl Vector {
 
     fn take_read(input: &mut impl Read) -> Result<Self, Stop> {
         let [length] = take_bytes(input)?;
-        let mut bytes = vec![0; usize::from(length)];
-        input.read_exact(&mut bytes)?;
+        let bytes = take_run(input, length)?;
         Ok(Vector::Read { bytes })
     }
 
     fn take_write(input: &mut impl Read) -> Result<Self, Stop> {
         let [svid_low, svid_high, command, kind, position, room, count] = take_bytes(input)?;
-        let objects: Result<Vec<u32>, Stop> = (0..count)
-            .map(|_| Ok(u32::from_le_bytes(take_bytes(input)?)))
-            .collect();
+        let objects = take_objects(input, count)?;
         Ok(Vector::Write {
             svid: u16::from_le_bytes([svid_low, svid_high]),
             command,
             kind,
             position,
             room,
-            objects: objects?,
+            objects,
         })
     }
 
     pub fn put(&self, output: &mut impl Write) -> io::Result<()> {
         match self {
             Vector::Read { bytes } => {
-                output.write_all(&[READ, length_byte(bytes)])?;
+                output.write_all(&[READ, count_byte(bytes)])?;
                 output.write_all(bytes)
             }
             Vector::Write {
@@ -85,24 +63,12 @@ impl Vector {
                 objects,
             } => {
                 let [svid_low, svid_high] = svid.to_le_bytes();
-                let count = length_byte(objects);
+                let count = count_byte(objects);
                 output.write_all(&[
                     WRITE, svid_low, svid_high, *command, *kind, *position, *room, count,
                 ])?;
-                objects
-                    .iter()
-                    .try_for_each(|object| output.write_all(&object.to_le_bytes()))
+                put_objects(objects, output)
             }
         }
     }
-}
-
-fn take_bytes<const COUNT: usize>(input: &mut impl Read) -> Result<[u8; COUNT], Stop> {
-    let mut bytes = [0; COUNT];
-    input.read_exact(&mut bytes)?;
-    Ok(bytes)
-}
-
-fn length_byte<T>(items: &[T]) -> u8 {
-    u8::try_from(items.len()).expect("a vector holds at most 255 bytes or objects")
 }

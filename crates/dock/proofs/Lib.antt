@@ -1,0 +1,4 @@
+-- Laws on the dock's definitions, a file for each topic.
+pub mod Decisions
+pub mod Lists
+pub mod Steps

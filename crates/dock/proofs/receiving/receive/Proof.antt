@@ -1,0 +1,54 @@
+-- `receive` meets its promise.
+use mathlib.Core.Path.{ap, _∙_}
+use Rattle.dock.specs.Dock.{acceptedBy, asking}
+use Rattle.dock.proofs.Decisions.{request-zero, request-past, request-asked}
+use Rattle.dock.proofs.Steps.{same, turn}
+use borrow.Author.Needs.{needs}
+use Rattle.dock.proofs.receiving.receive.Statement.{statement}
+use Rattle.dock.proofs.receiving.receive.Tie as tie
+
+send-bare-requires : tie.Need-send-bare-requires
+send-bare-requires c κs = search needs
+
+same-length : tie.Need-same-length
+same-length c = search needs
+
+returns : tie.Need-returns
+returns c = let a = c .before .before .before .before .before .before .before .args in
+    same (a .dock) _ _ (a .out .now) _ _ (request-zero (a .request) (a .dock) (c .before .before .before .before .if1 .taken)) (c .before .before .send-bare .ensures)
+
+send-bare-requires-2 : tie.Need-send-bare-requires-2
+send-bare-requires-2 c κs = search needs
+
+same-length-2 : tie.Need-same-length-2
+same-length-2 c = search needs
+
+returns-2 : tie.Need-returns-2
+returns-2 c = let a = c .before .before .before .before .before .before .before .before .before .args in
+    same (a .dock) _ _ (a .out .now) _ _ (request-past (a .request) (a .dock) (c .before .before .before .before .before .before .if1 .left) (c .before .before .before .before .if2 .taken)) (c .before .before .send-bare2 .ensures)
+
+asking-for-requires : tie.Need-asking-for-requires
+asking-for-requires c κs = search needs
+
+accepted-requires : tie.Need-accepted-requires
+accepted-requires c κs = search needs
+
+returns-3 : tie.Need-returns-3
+returns-3 c = let a = c .before .before .before .before .before .before .before .args in
+    turn (a .dock) (asking (a .request) (a .dock)) _ (a .out .now) _
+    (request-asked (a .request) (a .dock) (c .before .before .before .before .if1 .left) (c .before .before .if2 .left))
+    (c .accepted .ensures ∙ ap (acceptedBy 0) (c .before .asking-for .ensures))
+
+pub receive-spec : {M : Type 1} → statement M
+receive-spec =
+    tie.close
+    (tie.spec
+    send-bare-requires
+    same-length
+    returns
+    send-bare-requires-2
+    same-length-2
+    returns-2
+    asking-for-requires
+    accepted-requires
+    returns-3)

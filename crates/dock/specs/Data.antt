@@ -1,0 +1,83 @@
+-- The dock's data and its limits (01, "The dock end").
+use Prim.Native.Nat.{ℕ, _-_}
+use mathlib.Core.Bool.{Bool, true, false, not, _&&_, _||_}
+use mathlib.Core.List.{List, [], _∷_, _++_}
+use lib.Dec.{leb, eqb}
+use lib.ListN.{length, take, replicate}
+use Rattle.laws.specs.Padded.{padded}
+use Rattle.dock.specs.declared.Dock.{Dock}
+use Rattle.dock.specs.declared.Standing.{Standing}
+use Rattle.dock.specs.declared.Standing.the-variants.{Ready}
+
+abbrev pub mostSvids : ℕ
+mostSvids = 72
+
+-- the SVIDs that the dock lists
+abbrev pub listed : Dock → List ℕ
+listed d = take (d .count) (d .svids)
+
+unfoldable pub isIn : ℕ → List ℕ → Bool
+isIn svid [] = false
+isIn svid (s ∷ list) = eqb s svid || isIn svid list
+
+-- none 0, all different
+unfoldable pub soundList : List ℕ → Bool
+soundList [] = true
+soundList (s ∷ list) = not (eqb s 0) && (not (isIn s list) && soundList list)
+
+-- 3 to 6 identity objects; 0 to 72 SVIDs, none 0, all different
+unfoldable pub goodIdentity : ℕ → Bool
+goodIdentity objects = leb 3 objects && leb objects 6
+
+unfoldable pub goodData : List ℕ → List ℕ → Bool
+goodData identity svids = goodIdentity (length identity) && (leb (length svids) mostSvids && soundList svids)
+
+-- a list in the array of 72, zeros behind it
+abbrev pub filled : List ℕ → List ℕ
+filled list = list ++ replicate (mostSvids - length list) 0
+
+-- unloaded, the list and the identity are empty
+unfoldable pub freshDock : Dock
+freshDock =
+    record {
+      identity = replicate 6 0;
+      objects = 0;
+      svids = replicate 72 0;
+      count = 0;
+      page = 0;
+      standing = Ready;
+    }
+
+unfoldable pub loaded : List ℕ → List ℕ → Dock
+loaded identity svids =
+    record {
+      identity = padded identity;
+      objects = length identity;
+      svids = filled svids;
+      count = length svids;
+      page = 0;
+      standing = Ready;
+    }
+
+-- one setter for each field that changes
+abbrev pub withPage : ℕ → Dock → Dock
+withPage p d =
+    record {
+      identity = d .identity;
+      objects = d .objects;
+      svids = d .svids;
+      count = d .count;
+      page = p;
+      standing = d .standing;
+    }
+
+abbrev pub withStanding : Standing → Dock → Dock
+withStanding s d =
+    record {
+      identity = d .identity;
+      objects = d .objects;
+      svids = d .svids;
+      count = d .count;
+      page = d .page;
+      standing = s;
+    }

@@ -1,0 +1,51 @@
+// What becomes of an answer: "sent" or "failed".
+ghost use mathlib.Core.Path.{_≡_};
+ghost use Rattle.dock.specs.Dock.{moved, decideSent, decideFailed, stepOf};
+use crate::Dock;
+use crate::Standing;
+use crate::Step;
+use crate::list::first_svids;
+use crate::replying::accepted;
+use crate::replying::refused;
+use crate::replying::standing_at;
+
+// A page that does not end the list moves on to the next; the last stays until the next Identity.
+fn move_on(paged: bool, dock: Dock) -> Dock
+    ensures { λ r. ⌜ r ≡ moved paged dock ⌝ }
+{
+    if !paged {
+        return standing_at(Standing::Ready, dock);
+    }
+    let svids = dock.svids;
+    let page = dock.page;
+    if pages::is_last(first_svids(&svids, dock.count as usize), page) {
+        return standing_at(Standing::Ready, dock);
+    }
+    Dock {
+        page: page + 1,
+        standing: Standing::Ready,
+        ..dock
+    }
+}
+
+// The answer was sent; refused 9 where none is.
+pub fn sent(dock: Dock) -> Step
+    ensures { λ r. ⌜ r ≡ stepOf dock (decideSent dock (dock .standing)) 0 ⌝ }
+{
+    let standing = dock.standing;
+    let Standing::Sending(paged) = standing else {
+        return refused(9, dock);
+    };
+    accepted(0, move_on(paged, dock))
+}
+
+// The answer failed; refused 9 where none is sent.
+pub fn failed(dock: Dock) -> Step
+    ensures { λ r. ⌜ r ≡ stepOf dock (decideFailed dock (dock .standing)) 0 ⌝ }
+{
+    let standing = dock.standing;
+    let Standing::Sending(_) = standing else {
+        return refused(9, dock);
+    };
+    accepted(0, standing_at(Standing::Ready, dock))
+}

@@ -1,0 +1,91 @@
+// Lists of SVIDs and of objects: the limits of a list, and its place in the dock's arrays.
+ghost use mathlib.Core.Path.{_≡_};
+ghost use Prim.Native.Nat.{_≤_};
+ghost use lib.ListN.{length, take, getD};
+ghost use Rattle.laws.specs.Padded.{padded};
+ghost use Rattle.dock.specs.Data.{isIn, soundList, filled};
+
+fn is_in(svid: u16, list: &[u16]) -> bool
+    ensures { λ r. ⌜ r ≡ isIn svid (now (list .entry)) ⌝ }
+{
+    let mut i = 0;
+    while i < list.len() {
+        if list[i] == svid {
+            return true;
+        }
+        i += 1;
+    }
+    false
+}
+
+// None 0, all different.
+pub fn sound(list: &[u16]) -> bool
+    ensures { λ r. ⌜ r ≡ soundList (now (list .entry)) ⌝ }
+{
+    let mut i = 0;
+    while i < list.len() {
+        let svid = list[i];
+        if svid == 0 {
+            return false;
+        }
+        i += 1;
+        if is_in(svid, &list[i..]) {
+            return false;
+        }
+    }
+    true
+}
+
+// The list in an array of 72, with zeros behind it.
+pub fn svids_from(list: &[u16]) -> [u16; 72]
+    requires { ⌜ length (now list) ≤ 72 ⌝ }
+    ensures { λ r. ⌜ r ≡ filled (now (list .entry)) ⌝ }
+{
+    let mut svids = [0u16; 72];
+    let mut i = 0;
+    while i < list.len() {
+        svids[i] = list[i];
+        i += 1;
+    }
+    svids
+}
+
+fn object_or_zero(objects: &[u32], i: usize) -> u32
+    ensures { λ r. ⌜ r ≡ getD (now (objects .entry)) i 0 ⌝ }
+{
+    if i < objects.len() { objects[i] } else { 0 }
+}
+
+// The first six objects, with zeros behind them.
+pub fn objects_from(objects: &[u32]) -> [u32; 6]
+    ensures { λ r. ⌜ r ≡ padded (now (objects .entry)) ⌝ }
+{
+    [
+        object_or_zero(objects, 0),
+        object_or_zero(objects, 1),
+        object_or_zero(objects, 2),
+        object_or_zero(objects, 3),
+        object_or_zero(objects, 4),
+        object_or_zero(objects, 5),
+    ]
+}
+
+// The first n SVIDs, or all where there are fewer.
+pub fn first_svids(list: &[u16], n: usize) -> &[u16]
+    ensures { λ r. ⌜ now r ≡ take n (now (list .entry)) ⌝ }
+{
+    if n <= list.len() {
+        return &list[0..n];
+    }
+    list
+}
+
+// The first n objects, or all where there are fewer.
+pub fn first_objects(objects: &[u32], n: usize) -> &[u32]
+    ensures { λ r. ⌜ now r ≡ take n (now (objects .entry)) ⌝ }
+{
+    if n <= objects.len() {
+        return &objects[0..n];
+    }
+    objects
+}

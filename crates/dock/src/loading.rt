@@ -1,0 +1,70 @@
+// A fresh dock, and loading it.
+ghost use mathlib.Core.Path.{_≡_};
+ghost use Rattle.dock.specs.Data.{freshDock, loaded, goodData};
+ghost use Rattle.dock.specs.Dock.{decideLoad, stepOf};
+ghost use Prim.Native.Nat.{_≤_};
+ghost use lib.ListN.{length};
+use crate::Dock;
+use crate::Standing;
+use crate::Step;
+use crate::list::objects_from;
+use crate::list::sound;
+use crate::list::svids_from;
+use crate::replying::accepted;
+use crate::replying::refused;
+
+pub fn fresh() -> Dock
+    ensures { λ r. ⌜ r ≡ freshDock ⌝ }
+{
+    Dock {
+        identity: [0; 6],
+        objects: 0,
+        svids: [0; 72],
+        count: 0,
+        page: 0,
+        standing: Standing::Ready,
+    }
+}
+
+fn good_data(identity: &[u32], svids: &[u16]) -> bool
+    ensures { λ r. ⌜ r ≡ goodData (now (identity .entry)) (now (svids .entry)) ⌝ }
+{
+    if identity.len() < 3 {
+        return false;
+    }
+    if 6 < identity.len() {
+        return false;
+    }
+    if 72 < svids.len() {
+        return false;
+    }
+    sound(svids)
+}
+
+fn dock_of(identity: &[u32], svids: &[u16]) -> Dock
+    requires { ⌜ (length (now identity) ≤ 6) × (length (now svids) ≤ 72) ⌝ }
+    ensures { λ r. ⌜ r ≡ loaded (now (identity .entry)) (now (svids .entry)) ⌝ }
+{
+    Dock {
+        identity: objects_from(identity),
+        objects: identity.len() as u8,
+        svids: svids_from(svids),
+        count: svids.len() as u8,
+        page: 0,
+        standing: Standing::Ready,
+    }
+}
+
+// Loads identity and list, and sets the page to 0: refused 9 unless ready, then 10 for data that breaks its limits.
+pub fn load(dock: Dock, identity: &[u32], svids: &[u16]) -> Step
+    ensures { λ r. ⌜ r ≡ stepOf dock (decideLoad (dock .standing) (now (identity .entry)) (now (svids .entry))) 0 ⌝ }
+{
+    let standing = dock.standing;
+    let Standing::Ready = standing else {
+        return refused(9, dock);
+    };
+    if good_data(identity, svids) {
+        return accepted(0, dock_of(identity, svids));
+    }
+    refused(10, dock)
+}

@@ -1,0 +1,73 @@
+// A message that arrives.
+ghost use mathlib.Core.Path.{_≡_};
+ghost use Rattle.messages.specs.Reading.{readOutcome};
+ghost use Rattle.dock.specs.Dock.{asking, decideRequest, decideMessage, requestOf, Stepped};
+use crate::ATTENTION;
+use crate::Dock;
+use crate::EXIT;
+use crate::IDENTITY;
+use crate::Request;
+use crate::Standing;
+use crate::Step;
+use crate::replying::accepted;
+use crate::replying::refused;
+use crate::replying::send_bare;
+use crate::replying::standing_at;
+use messages::Answer;
+use messages::Head;
+use messages::NAK;
+use messages::REQ;
+
+fn request_of(head: Head) -> Request
+    ensures { λ r. ⌜ r ≡ requestOf head ⌝ }
+{
+    Request {
+        svid: head.svid,
+        command: head.command,
+        position: head.position,
+    }
+}
+
+// Identity sets the page to 0 on receipt.
+fn asking_for(request: Request, dock: Dock) -> Dock
+    ensures { λ r. ⌜ r ≡ asking request dock ⌝ }
+{
+    if request.command == IDENTITY {
+        return Dock {
+            page: 0,
+            standing: Standing::Asking(request),
+            ..dock
+        };
+    }
+    standing_at(Standing::Asking(request), dock)
+}
+
+fn receive(dock: Dock, request: Request, out: &mut [u8]) -> Step
+    ensures { λ r. ⌜ Stepped dock (decideRequest dock request) (now (out .entry)) r (now (out .exit)) ⌝ }
+{
+    if request.command < IDENTITY {
+        return send_bare(dock, request, NAK, out);
+    }
+    if EXIT < request.command {
+        return send_bare(dock, request, NAK, out);
+    }
+    accepted(0, asking_for(request, dock))
+}
+
+// A message from the laptop: refused 1 to 5, then 6, then 11.
+pub fn message(dock: Dock, bytes: &[u8], out: &mut [u8]) -> Step
+    ensures { λ r. ⌜ Stepped dock (decideMessage dock (readOutcome (now (bytes .entry)))) (now (out .entry)) r (now (out .exit)) ⌝ }
+{
+    let reading = messages::read(bytes);
+    let answer = reading.answer;
+    let Answer::Message(head, _) = answer else {
+        return refused(messages::number(answer), dock);
+    };
+    if head.kind != REQ {
+        return refused(6, dock);
+    }
+    if head.command == ATTENTION {
+        return refused(6, dock);
+    }
+    receive(dock, request_of(head), out)
+}

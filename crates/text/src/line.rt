@@ -1,0 +1,98 @@
+// One line of output, built in a buffer that the caller lends, so that one call writes it. Each
+// function that adds to the line puts its text at `at` and answers where that text ends.
+use libc::STDOUT_FILENO;
+
+// A part is written `0..end` in this crate, and not `..end`, since Rattle then proves its length
+// with no proof file. `end` lies within every line: testing it spares the callers the proof.
+pub fn print_line(line: &[u8], end: usize) {
+    if end <= line.len() {
+        io::write_all(STDOUT_FILENO, &line[0..end]);
+    }
+}
+
+// A program's last line: how the input ended, how many were answered before that, and the rest. It
+// stands once in an output, so it is not worth a buffer.
+pub fn print_last(ending: &[u8], answered: u64, rest: &[u8]) {
+    io::write_all(STDOUT_FILENO, ending);
+    io::print_decimal(STDOUT_FILENO, answered);
+    io::write_all(STDOUT_FILENO, rest);
+}
+
+// The callers lend lines with room for all of their text, and testing it spares them the proof.
+fn put(line: &mut [u8], at: usize, byte: u8) -> usize {
+    if at < line.len() {
+        line[at] = byte;
+        return at + 1;
+    }
+    at
+}
+
+pub fn append(line: &mut [u8], at: usize, text: &[u8]) -> usize {
+    let mut end = at;
+    let mut index = 0;
+    while index < text.len() {
+        end = put(line, end, text[index]);
+        index += 1;
+    }
+    end
+}
+
+pub fn append_decimal(line: &mut [u8], at: usize, number: u64) -> usize {
+    let mut digits = [0u8; 20];
+    let count = io::decimal(number, &mut digits);
+    append(line, at, &digits[0..count])
+}
+
+// The number has a space before it.
+pub fn append_field(line: &mut [u8], at: usize, number: u8) -> usize {
+    let at = put(line, at, b' ');
+    append_decimal(line, at, number as u64)
+}
+
+// The library's `io::hex` has lower case digits.
+fn digit(value: u8) -> u8 {
+    let low = value % 16;
+    if low < 10 {
+        b'0' + low
+    } else {
+        b'A' + (low - 10)
+    }
+}
+
+fn append_byte(line: &mut [u8], at: usize, byte: u8) -> usize {
+    let middle = put(line, at, digit(byte / 16));
+    put(line, middle, digit(byte % 16))
+}
+
+pub fn append_half(line: &mut [u8], at: usize, half: u16) -> usize {
+    let middle = append_byte(line, at, (half / 256) as u8);
+    append_byte(line, middle, (half % 256) as u8)
+}
+
+fn append_word(line: &mut [u8], at: usize, word: u32) -> usize {
+    let middle = append_half(line, at, (word / 65536) as u16);
+    append_half(line, middle, (word % 65536) as u16)
+}
+
+// The bytes stand in their own order, with nothing between them.
+pub fn append_bytes(line: &mut [u8], at: usize, bytes: &[u8]) -> usize {
+    let mut end = at;
+    let mut index = 0;
+    while index < bytes.len() {
+        end = append_byte(line, end, bytes[index]);
+        index += 1;
+    }
+    end
+}
+
+// Each word has a space before it.
+pub fn append_words(line: &mut [u8], at: usize, words: &[u32]) -> usize {
+    let mut end = at;
+    let mut index = 0;
+    while index < words.len() {
+        end = put(line, end, b' ');
+        end = append_word(line, end, words[index]);
+        index += 1;
+    }
+    end
+}

@@ -1,0 +1,80 @@
+//! Counts what a stream of dock events reaches, and tells what it never reaches.
+
+use super::event::KINDS;
+use super::run::{ASKING, READY, SENDING};
+use super::{Event, Run};
+use crate::dock::MOST_SVIDS;
+use crate::refusals::{
+    ACCEPTED, BROKEN_LIMITS, NOT_AWAITED, NOT_STRUCTURED, NOT_TAKEN_NOW, NOT_WHOLE_OBJECTS,
+    RESERVED_BIT, SHORT_BUFFER, UNREAD_MAJOR, WRONG_SHAPE,
+};
+use std::collections::BTreeMap;
+use std::fmt;
+
+const REFUSALS: [u8; 10] = [
+    ACCEPTED,
+    NOT_WHOLE_OBJECTS,
+    NOT_STRUCTURED,
+    UNREAD_MAJOR,
+    RESERVED_BIT,
+    WRONG_SHAPE,
+    NOT_AWAITED,
+    NOT_TAKEN_NOW,
+    BROKEN_LIMITS,
+    SHORT_BUFFER,
+];
+const STANDINGS: [&str; 3] = [READY, ASKING, SENDING];
+
+#[derive(Default)]
+pub struct Tally {
+    run: Run,
+    refusals: BTreeMap<u8, usize>,
+    /// By the event's kind and the standing before it.
+    pairs: BTreeMap<(u8, &'static str), usize>,
+    /// By the length of a list that was loaded.
+    lists: BTreeMap<usize, usize>,
+}
+
+impl Tally {
+    pub fn count(&mut self, event: &Event) {
+        let pair = (event.kind(), self.run.standing());
+        *self.pairs.entry(pair).or_default() += 1;
+        let refusal = self.run.take(event).refusal;
+        *self.refusals.entry(refusal).or_default() += 1;
+        if matches!(event, Event::Load { .. }) && refusal == ACCEPTED {
+            let length = self.run.dock().svid_count();
+            *self.lists.entry(length).or_default() += 1;
+        }
+    }
+
+    /// A line for each refusal, pair and length of a list that never occurred.
+    pub fn missing(&self) -> Vec<String> {
+        let refusals = REFUSALS
+            .iter()
+            .filter(|refusal| !self.refusals.contains_key(refusal))
+            .map(|refusal| format!("refusal {refusal} never occurred"));
+        let pairs = KINDS
+            .iter()
+            .flat_map(|&kind| STANDINGS.map(|standing| (kind, standing)))
+            .filter(|pair| !self.pairs.contains_key(pair))
+            .map(|(kind, standing)| format!("kind {kind:02X} while {standing} never occurred"));
+        let lists = (0..=MOST_SVIDS)
+            .filter(|length| !self.lists.contains_key(length))
+            .map(|length| format!("a list of {length} never occurred"));
+        refusals.chain(pairs).chain(lists).collect()
+    }
+}
+
+impl fmt::Display for Tally {
+    fn fmt(&self, formatter: &mut fmt::Formatter) -> fmt::Result {
+        for (refusal, count) in &self.refusals {
+            writeln!(formatter, "refusal {refusal}: {count}")?;
+        }
+        for ((kind, standing), count) in &self.pairs {
+            writeln!(formatter, "kind {kind:02X} while {standing}: {count}")?;
+        }
+        let loads: usize = self.lists.values().sum();
+        let lengths = self.lists.len();
+        write!(formatter, "lists loaded: {loads}, of {lengths} lengths")
+    }
+}

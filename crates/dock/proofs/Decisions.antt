@@ -230,7 +230,7 @@ module _ (d : Dock) where
   unfolding decideSent
   sent-moves s isPage e = ap (decideSent d) e
 
-  pub failed-ready : (s : Standing) (isPage : Bool) → s ≡ Sending isPage → decideFailed d s ≡ turns (withStanding Ready d)
+  pub failed-ready : (s : Standing) (isPage : Bool) → s ≡ Sending isPage → decideFailed d s ≡ turns (moved false d)
   unfolding decideFailed
   failed-ready s isPage e = ap (decideFailed d) e
 

@@ -1,4 +1,6 @@
 -- Laws on the dock's definitions, a file for each topic.
 pub mod Decisions
+pub mod Kept
+pub mod Laws
 pub mod Lists
 pub mod Steps

@@ -142,7 +142,8 @@ decideAnswer d Ready policy r objects = refuses 9
 decideAnswer d (Sending isPage) policy r objects = refuses 9
 decideAnswer d (Asking asked) policy r objects = cond (sameRequest asked r) (decidePolicy d policy r objects) (refuses 9)
 
--- "sent" on a page that does not end the list moves to the next page; "failed" does not; both lead to ready, and are 9 without an answer
+-- both "sent" and "failed" lead to ready, and are 9 without an answer. "Sent" on a page that does not end the list moves to the next page;
+-- "failed" moves nothing, as if no page had been sent
 unfoldable pub moved : Bool → Dock → Dock
 moved isPage d = withStanding Ready (cond (isPage && not (isLast (listed d) (d .page))) (withPage (d .page + 1) d) d)
 
@@ -154,4 +155,4 @@ decideSent d (Sending isPage) = turns (moved isPage d)
 unfoldable pub decideFailed : Dock → Standing → Decision
 decideFailed d Ready = refuses 9
 decideFailed d (Asking request) = refuses 9
-decideFailed d (Sending isPage) = turns (withStanding Ready d)
+decideFailed d (Sending isPage) = turns (moved false d)

@@ -47,5 +47,5 @@ pub fn failed(dock: Dock) -> Step
     let Standing::Sending(_) = standing else {
         return refused(9, dock);
     };
-    accepted(0, standing_at(Standing::Ready, dock))
+    accepted(0, move_on(false, dock))
 }

@@ -60,12 +60,28 @@ even-values rest = go (leb 12 (length rest)) refl
     go true e = omega (arith, length-values-full rest (leb-true 12 (length rest) e))
     go false e = omega (arith, length-values-last rest (leb-false 12 (length rest) e))
 
+paired-below : (vs : List ℕ) → Below (2 ^ 16) vs → Below (2 ^ 32) (paired vs)
+unfolding paired
+paired-below [] b k = omega arith
+paired-below (v ∷ []) b zero = omega (arith, b 0)
+paired-below (v ∷ []) b (suc k) = omega arith
+paired-below (v ∷ w ∷ vs) b zero = omega (arith, b 0, b 1)
+paired-below (v ∷ w ∷ vs) b (suc k) = paired-below vs (λ j. b (suc (suc j))) k
+
+remaining-below : (list : List ℕ) (p : ℕ) → Below (2 ^ 16) list → Below (2 ^ 16) (remaining list p)
+remaining-below list p b k = omega (arith, getD-drop (p * 12) list k 0, b (p * 12 + k))
+
+-- a page's objects have 32 bits
+pub page-below : (list : List ℕ) (p : ℕ) → Below (2 ^ 16) list → Below (2 ^ 32) (page list p)
+unfolding page
+page-below list p b = paired-below (values (remaining list p)) (values-below (remaining list p) (remaining-below list p b))
+
 -- the values on a page
 pub page-values : (list : List ℕ) (p : ℕ) → Below (2 ^ 16) list → halves (page list p) ≡ values (remaining list p)
 unfolding page
 page-values list p b =
     halves-paired (values (remaining list p))
-    (values-below (remaining list p) (λ k. omega (arith, getD-drop (p * 12) list k 0, b (p * 12 + k))))
+    (values-below (remaining list p) (remaining-below list p b))
     (even-values (remaining list p))
 
 -- they are the next twelve of the list, or what remains, and then zeros alone: none on a page that does not end the list

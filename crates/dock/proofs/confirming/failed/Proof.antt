@@ -1,9 +1,7 @@
 -- `failed` meets its promise.
 use mathlib.Core.Path.{ap, _∙_}
 use mathlib.Core.List.{[]}
-use Rattle.dock.specs.Data.{withStanding}
 use Rattle.dock.specs.Dock.{acceptedBy}
-use Rattle.dock.specs.declared.Standing.the-variants.{Ready}
 use Rattle.dock.proofs.Decisions.{failed-standing, failed-ready}
 use Rattle.dock.proofs.Steps.{refuse, turn}
 use borrow.Author.Needs.{needs}
@@ -20,18 +18,17 @@ returns : tie.Need-returns
 returns c = let d = c .before .before .args .dock in
     refuse d _ 9 [] _ (failed-standing d (d .standing) (c .before .match .keys2)) (c .refused .ensures) .step-is
 
-standing-at-requires : tie.Need-standing-at-requires
-standing-at-requires c κs = search needs
+move-on-requires : tie.Need-move-on-requires
+move-on-requires c κs = search needs
 
 accepted-requires : tie.Need-accepted-requires
 accepted-requires c κs = search needs
 
 returns-2 : tie.Need-returns-2
 returns-2 c = let d = c .before .before .before .before .args .dock in
-    turn d (withStanding Ready d) _ [] _ (failed-ready d (d .standing) _ (c .before .before .enum-told .given .1))
-    (c .accepted .ensures ∙ ap (acceptedBy 0) (c .before .standing-at .ensures)) .step-is
+    turn d _ _ [] _ (failed-ready d (d .standing) _ (c .before .before .enum-told .given .1)) (c .accepted .ensures ∙ ap (acceptedBy 0) (c .before .move-on .ensures)) .step-is
 
 pub failed-spec : {M : Type 1} → statement M
 failed-spec =
     tie.close
-    (tie.spec enum-told refused-requires returns standing-at-requires accepted-requires returns-2)
+    (tie.spec enum-told refused-requires returns move-on-requires accepted-requires returns-2)

@@ -54,15 +54,20 @@ fn give_identity(dock: Dock, request: Request, out: &mut [u8]) -> Step
 fn give_page(dock: Dock, request: Request, out: &mut [u8]) -> Step
     ensures { λ r. ⌜ Stepped dock (givePage dock request) (now (out .entry)) r (now (out .exit)) ⌝ }
 {
-    let svids = dock.svids;
-    let list = first_svids(&svids, dock.count as usize);
+    let list = first_svids(&dock.svids, dock.count as usize);
     if list.len() == 0 {
         return send_bare(dock, request, NAK, out);
     }
     let page = pages::make_page(list, dock.page);
-    let objects = page.objects;
     let n = page.count as usize;
-    send(dock, request, ACK, first_objects(&objects, n), true, out)
+    send(
+        dock,
+        request,
+        ACK,
+        first_objects(&page.objects, n),
+        true,
+        out,
+    )
 }
 
 fn give_modes(dock: Dock, request: Request, objects: &[u32], out: &mut [u8]) -> Step

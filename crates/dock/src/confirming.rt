@@ -16,9 +16,8 @@ fn move_on(paged: bool, dock: Dock) -> Dock
     if !paged {
         return standing_at(Standing::Ready, dock);
     }
-    let svids = dock.svids;
     let page = dock.page;
-    if pages::is_last(first_svids(&svids, dock.count as usize), page) {
+    if pages::is_last(first_svids(&dock.svids, dock.count as usize), page) {
         return standing_at(Standing::Ready, dock);
     }
     Dock {

@@ -19,7 +19,7 @@ fn is_in(svid: u16, list: &[u16]) -> bool
 }
 
 // None 0, all different.
-pub fn sound(list: &[u16]) -> bool
+pub(crate) fn sound(list: &[u16]) -> bool
     ensures { λ r. ⌜ r ≡ soundList (now (list .entry)) ⌝ }
 {
     let mut i = 0;
@@ -37,7 +37,7 @@ pub fn sound(list: &[u16]) -> bool
 }
 
 // The list in an array of 72, with zeros behind it.
-pub fn svids_from(list: &[u16]) -> [u16; 72]
+pub(crate) fn svids_from(list: &[u16]) -> [u16; 72]
     requires { ⌜ length (now list) ≤ 72 ⌝ }
     ensures { λ r. ⌜ r ≡ filled (now (list .entry)) ⌝ }
 {
@@ -57,7 +57,7 @@ fn object_or_zero(objects: &[u32], i: usize) -> u32
 }
 
 // The first six objects, with zeros behind them.
-pub fn objects_from(objects: &[u32]) -> [u32; 6]
+pub(crate) fn objects_from(objects: &[u32]) -> [u32; 6]
     ensures { λ r. ⌜ r ≡ padded (now (objects .entry)) ⌝ }
 {
     [
@@ -71,7 +71,7 @@ pub fn objects_from(objects: &[u32]) -> [u32; 6]
 }
 
 // The first n SVIDs, or all where there are fewer.
-pub fn first_svids(list: &[u16], n: usize) -> &[u16]
+pub(crate) fn first_svids(list: &[u16], n: usize) -> &[u16]
     ensures { λ r. ⌜ now r ≡ take n (now (list .entry)) ⌝ }
 {
     if n <= list.len() {
@@ -81,7 +81,7 @@ pub fn first_svids(list: &[u16], n: usize) -> &[u16]
 }
 
 // The first n objects, or all where there are fewer.
-pub fn first_objects(objects: &[u32], n: usize) -> &[u32]
+pub(crate) fn first_objects(objects: &[u32], n: usize) -> &[u32]
     ensures { λ r. ⌜ now r ≡ take n (now (objects .entry)) ⌝ }
 {
     if n <= objects.len() {

@@ -11,7 +11,7 @@ use crate::Step;
 use messages::Head;
 
 // Nothing is sent, and the state stays.
-pub fn refused(number: u8, dock: Dock) -> Step
+pub(crate) fn refused(number: u8, dock: Dock) -> Step
     ensures { λ r. ⌜ r ≡ refusedBy number dock ⌝ }
 {
     Step {
@@ -21,7 +21,7 @@ pub fn refused(number: u8, dock: Dock) -> Step
     }
 }
 
-pub fn accepted(length: u8, dock: Dock) -> Step
+pub(crate) fn accepted(length: u8, dock: Dock) -> Step
     ensures { λ r. ⌜ r ≡ acceptedBy length dock ⌝ }
 {
     Step {
@@ -31,7 +31,7 @@ pub fn accepted(length: u8, dock: Dock) -> Step
     }
 }
 
-pub fn standing_at(standing: Standing, dock: Dock) -> Dock
+pub(crate) fn standing_at(standing: Standing, dock: Dock) -> Dock
     ensures { λ r. ⌜ r ≡ withStanding standing dock ⌝ }
 {
     Dock { standing, ..dock }
@@ -49,7 +49,7 @@ fn reply_head(request: Request, kind: u8) -> Head
 }
 
 // Hands an answer to a request over; a buffer that is too short is refused, and the dock stays as it was.
-pub fn send(
+pub(crate) fn send(
     dock: Dock,
     request: Request,
     kind: u8,
@@ -68,7 +68,7 @@ pub fn send(
 }
 
 // An answer without objects.
-pub fn send_bare(dock: Dock, request: Request, kind: u8, out: &mut [u8]) -> Step
+pub(crate) fn send_bare(dock: Dock, request: Request, kind: u8, out: &mut [u8]) -> Step
     ensures { λ r. ⌜ Stepped dock (sends (reply request kind []) (sending false dock)) (now (out .entry)) r (now (out .exit)) ⌝ }
 {
     let none = [0u32; 0];

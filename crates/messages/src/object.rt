@@ -11,7 +11,7 @@ fn joined(a: u8, b: u8, c: u8, d: u8) -> u32
 }
 
 // Object i, counted from 0; 0 where the bytes end before it does.
-pub fn object_at(bytes: &[u8], i: usize) -> u32
+pub(crate) fn object_at(bytes: &[u8], i: usize) -> u32
     requires { ⌜ i < 7 ⌝ }
     ensures { λ r. ⌜ r ≡ getD (objectsOf (now (bytes .entry))) i 0 ⌝ }
 {

@@ -138,7 +138,7 @@ fn fits(row: Row, head: Head, count: u8) -> bool
 }
 
 // Do a head and a number of objects, the header counted, fit the command's row?
-pub fn shape(head: Head, count: u8) -> bool
+pub(crate) fn shape(head: Head, count: u8) -> bool
     ensures { λ r. ⌜ r ≡ Table·shape head count ⌝ }
 {
     let command = head.command;

@@ -16,9 +16,6 @@ use borrow.Author.Needs.{needs}
 use Rattle.dock.proofs.answering.give_page.Statement.{statement}
 use Rattle.dock.proofs.answering.give_page.Tie as tie
 
-slice-aggregate-first-svids : tie.Need-slice-aggregate-first-svids
-slice-aggregate-first-svids c = search needs
-
 cast-first-svids : tie.Need-cast-first-svids
 cast-first-svids c = search needs
 
@@ -33,17 +30,14 @@ same-length c = search needs
 
 returns : tie.Need-returns
 returns c = let a = c .before .before .before .before .before .before .before .before .before .before .args in
-    same (a .dock) _ _ (a .out .now) _ _
-    (page-none (a .dock) (a .request) (sym (ap length (c .before .before .before .before .before .first-svids .ensures)) ∙ c .before .before .before .before .if1 .taken)) (c .before .before .send-bare .ensures)
+    same (a .t1) _ _ (a .out .now) _ _
+    (page-none (a .t1) (a .request) (sym (ap length (c .before .before .before .before .before .first-svids .ensures)) ∙ c .before .before .before .before .if1 .taken)) (c .before .before .send-bare .ensures)
 
 make-page-requires : tie.Need-make-page-requires
 make-page-requires c κs = search needs
 
 cast-n : tie.Need-cast-n
 cast-n c = search needs
-
-slice-aggregate-first-objects : tie.Need-slice-aggregate-first-objects
-slice-aggregate-first-objects c = search needs
 
 first-objects-requires : tie.Need-first-objects-requires
 first-objects-requires c κs = search needs
@@ -57,18 +51,17 @@ same-length-2 c = search needs
 returns-2 : tie.Need-returns-2
 returns-2 c = let a = c .before .before .before .before .before .before .before .before .before .before .before .before .before .before .before .args in
     let list = c .before .before .before .before .before .before .before .before .before .before .first-svids .ensures in
-    let some : 0 < length (listed (a .dock)) = omega (arith, ap length list, c .before .before .before .before .before .before .before .before .before .if1 .left) in
-    let made = shown-objects _ (a .dock .page) (c .before .before .before .before .before .before .before .before .make-page .result) (c .before .before .before .before .before .before .before .before .make-page .ensures) in
-    let shown = c .before .before .before .before .first-objects .ensures ∙ made ∙ ap (λ (l : List ℕ). page l (a .dock .page)) list in
-    same (a .dock) _ _ (a .out .now) _ _
-    (page-given (a .dock) (a .request) some ∙ ap (λ (l : List ℕ). sends (reply (a .request) ack l) (sending true (a .dock))) (sym shown))
+    let some : 0 < length (listed (a .t1)) = omega (arith, ap length list, c .before .before .before .before .before .before .before .before .before .if1 .left) in
+    let made = shown-objects _ (a .t1 .page) (c .before .before .before .before .before .before .before .before .make-page .result) (c .before .before .before .before .before .before .before .before .make-page .ensures) in
+    let shown = c .before .before .before .before .first-objects .ensures ∙ made ∙ ap (λ (l : List ℕ). page l (a .t1 .page)) list in
+    same (a .t1) _ _ (a .out .now) _ _
+    (page-given (a .t1) (a .request) some ∙ ap (λ (l : List ℕ). sends (reply (a .request) ack l) (sending true (a .t1))) (sym shown))
     (c .before .before .send .ensures)
 
 pub give-page-spec : {M : Type 1} → statement M
 give-page-spec =
     tie.close
     (tie.spec
-    slice-aggregate-first-svids
     cast-first-svids
     first-svids-requires
     send-bare-requires
@@ -76,7 +69,6 @@ give-page-spec =
     returns
     make-page-requires
     cast-n
-    slice-aggregate-first-objects
     first-objects-requires
     send-requires
     same-length-2

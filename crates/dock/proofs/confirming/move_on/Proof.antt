@@ -14,10 +14,7 @@ standing-at-requires : tie.Need-standing-at-requires
 standing-at-requires c κs = search needs
 
 returns : tie.Need-returns
-returns c = c .standing-at .ensures ∙ moved-other (c .before .before .args .dock) (c .before .before .args .paged) (not-true _ (c .before .if1 .taken))
-
-slice-aggregate-first-svids : tie.Need-slice-aggregate-first-svids
-slice-aggregate-first-svids c = search needs
+returns c = c .standing-at .ensures ∙ moved-other (c .before .before .args .t2) (c .before .before .args .paged) (not-true _ (c .before .if1 .taken))
 
 cast-first-svids : tie.Need-cast-first-svids
 cast-first-svids c = search needs
@@ -32,18 +29,18 @@ standing-at-requires-2 : tie.Need-standing-at-requires-2
 standing-at-requires-2 c κs = search needs
 
 returns-2 : tie.Need-returns-2
-returns-2 c = let d = c .before .before .before .before .before .before .before .before .args .dock in
+returns-2 c = let d = c .before .before .before .before .before .before .before .before .args .t2 in
     let last = ap (λ (l : List ℕ). isLast l (d .page)) (sym (c .before .before .before .first-svids .ensures)) ∙ sym (c .before .before .is-last .ensures) ∙ c .before .if2 .taken in
     c .standing-at2 .ensures ∙ moved-last d (c .before .before .before .before .before .before .before .before .args .paged) last
 
-add-t13 : tie.Need-add-t13
-add-t13 c =
-    let d = c .before .before .before .before .before .before .before .args .dock in
+add-t12 : tie.Need-add-t12
+add-t12 c =
+    let d = c .before .before .before .before .before .before .before .args .t2 in
     let last = ap (λ (l : List ℕ). isLast l (d .page)) (sym (c .before .before .first-svids .ensures)) ∙ sym (c .before .is-last .ensures) ∙ c .if2 .left in
-    omega (arith, next-fits d (omega (arith, c .before .before .before .struct-known .given)) last)
+    omega (arith, next-fits d (search needs) last)
 
 returns-3 : tie.Need-returns-3
-returns-3 c = let d = c .before .before .before .before .before .before .before .before .before .args .dock in
+returns-3 c = let d = c .before .before .before .before .before .before .before .before .before .args .t2 in
     let last = ap (λ (l : List ℕ). isLast l (d .page)) (sym (c .before .before .before .before .first-svids .ensures)) ∙ sym (c .before .before .before .is-last .ensures) ∙ c .before .before .if2 .left in
     moved-on d (c .before .before .before .before .before .before .before .before .before .args .paged) (not-false _ (c .before .before .before .before .before .before .before .before .if1 .left)) last
 
@@ -53,11 +50,10 @@ move-on-spec =
     (tie.spec
     standing-at-requires
     returns
-    slice-aggregate-first-svids
     cast-first-svids
     first-svids-requires
     is-last-requires
     standing-at-requires-2
     returns-2
-    add-t13
+    add-t12
     returns-3)

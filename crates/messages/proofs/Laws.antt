@@ -12,7 +12,6 @@ use Rattle.laws.specs.Bounded.{Below}
 use Rattle.laws.specs.Lines.{firstAt}
 use Rattle.laws.specs.Padded.{padded}
 use Rattle.laws.proofs.Lines.{first-line, first-at}
-use Rattle.laws.proofs.Padded.{take-padded}
 use Rattle.messages.specs.Layout.{headOf, Message, Representable, messageBytes, withOurVersion}
 use Rattle.messages.specs.Table.{rowOf, countsOf, shape, allowed, firstHead}
 use Rattle.messages.specs.Reading.{headerIn, readLines, readRefusal, messageIn, Outcome, accepted, refused, outcome, readOutcome, shown}
@@ -22,7 +21,7 @@ use Rattle.messages.specs.declared.Answer.the-variants.{Message as Answe
 use Rattle.messages.specs.declared.Head.{Head}
 use Rattle.messages.specs.declared.Reading.{Reading}
 use Rattle.messages.proofs.Refusals.{read-refused, outcome-refused}
-use Rattle.messages.proofs.RoundTrip.{read-bytes, bytes-read, accepted-shape, accepted-objects}
+use Rattle.messages.proofs.RoundTrip.{read-bytes, bytes-read, accepted-shape, accepted-fits, message-bytes}
 use Rattle.messages.proofs.Rule.{shape-allowed, pair-has}
 use Rattle.messages.proofs.Stores.{write-whole}
 
@@ -75,6 +74,16 @@ write-read b below m e out room =
     let rest : drop (length (messageBytes m)) out ≡ [] = ap (λ (n : ℕ). drop n out) size ∙ drop-length out in
     write-whole m out (accepted-shape b m e) (omega (arith, size)) (withOurVersion b)
     (sym bytes ∙ sym (append-nil (messageBytes m)) ∙ ap (λ (l : List ℕ). messageBytes m ++ l) (sym rest))
+
+-- what was read has a good shape and fits the layout's widths, and what is written are bytes
+pub read-shape : (b : List ℕ) (m : Message) → readOutcome b ≡ accepted m → wellShaped m ≡ true
+read-shape b m e = accepted-shape b m e
+
+pub read-fits : (b : List ℕ) (m : Message) → Below 256 b → readOutcome b ≡ accepted m → Representable m
+read-fits b m below e = accepted-fits b m below e
+
+pub write-fits : (m : Message) → Below 256 (messageBytes m)
+write-fits m = message-bytes m
 
 -- a result that a promise allows is the only one
 pub read-only : (b : List ℕ) (r r′ : Reading) → r ≡ shown (readOutcome b) → r′ ≡ shown (readOutcome b) → r ≡ r′

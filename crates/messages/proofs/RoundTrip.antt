@@ -1,8 +1,9 @@
 -- Reading what was written, and writing what was read.
-use mathlib.Core.Path.{_≡_, refl, ap, ap₂, sym, _∙_}
+use mathlib.Core.Path.{_≡_, refl, ap, ap₂, subst, sym, _∙_}
 use mathlib.Core.Bool.{Bool, true, false, cond, _&&_}
 use mathlib.Core.List.{List, [], _∷_, _++_}
 use Prim.Native.Nat.{ℕ, zero, suc, _+_, _*_, _/_, _%_, _^_, _<_, _≤_}
+use native.Mathlib.Nat.{mod-lt}
 use native.Mathlib.Omega.{arith}
 use lib.Dec.{leb, eqb}
 use lib.ListN.{length, getD, drop, length-drop}
@@ -16,7 +17,7 @@ use Rattle.messages.specs.Reading.{headerLines, headerIn, readLines, rea
 use Rattle.messages.specs.Writing.{wellShaped, written}
 use Rattle.messages.specs.declared.Head.{Head}
 use Rattle.messages.proofs.Header.{header-below, header-structured, header-major, header-reserved, head-header, header-head}
-use Rattle.messages.proofs.Objects.{objects-bytes, bytes-objects, object-bytes, length-objects}
+use Rattle.messages.proofs.Objects.{objects-below, bytes-below, objects-bytes, bytes-objects, object-bytes, length-objects}
 use Rattle.messages.proofs.Refusals.{right-length, lines-none, read-accepted, refusal-header}
 use Rattle.messages.proofs.Rule.{shape-command, shape-kind, shape-position, shape-count}
 use Rattle.messages.proofs.Stores.{length-message}
@@ -106,12 +107,6 @@ module _ (b : List ℕ) (m : Message) (e : readOutcome b ≡ accepted m) where
         eqb-true (n % 4) 0 (and-right (leb n 28) _ rest),
       )
 
-  pub accepted-objects : length (m .objects) ≤ 6
-  unfolding messageIn
-  accepted-objects =
-      let count : length (m .objects) ≡ length (drop 1 (objectsOf b)) = ap (λ (n : Message). length (n .objects)) (sym is-in) in
-      omega (arith, count, length-drop 1 (objectsOf b), length-objects b, accepted-length .1)
-
   is-structured : structured (headerIn b) ≡ 1
   is-structured = let no = eqb-false (structured (headerIn b)) 0 (line 1) in omega arith
 
@@ -126,6 +121,21 @@ module _ (b : List ℕ) (m : Message) (e : readOutcome b ≡ accepted m) where
   accepted-shape =
       let count : length (drop 1 (objectsOf b)) + 1 ≡ length b / 4 = omega (arith, length-drop 1 (objectsOf b), length-objects b, accepted-length .0) in
       ap wellShaped (sym is-in) ∙ ap (λ (n : ℕ). shape (headOf (headerIn b)) n) count ∙ has-shape
+
+-- what was read fits the layout's widths, and what is written are bytes
+drop-below : (n : ℕ) (l : List ℕ) → Below n l → Below n (drop 1 l)
+drop-below n [] b k = b k
+drop-below n (x ∷ l) b k = b (suc k)
+
+pub accepted-fits : (b : List ℕ) (m : Message) → Below 256 b → readOutcome b ≡ accepted m → Representable m
+unfolding messageIn headOf
+accepted-fits b m below e =
+    subst Representable (is-in b m e)
+    (record { svid-fits = mod-lt _ (omega arith); objects-fit = drop-below (2 ^ 32) (objectsOf b) (objects-below b below) })
+
+pub message-bytes : (m : Message) → Below 256 (messageBytes m)
+unfolding messageBytes
+message-bytes m = bytes-below (headerOf (m .head) ∷ m .objects)
 
 -- four bytes are the header, and its second is where the version stands
 bytes-again : (b : List ℕ) → Below 256 b → 4 ≤ length b → length b % 4 ≡ 0 → structured (headerIn b) ≡ 1 → reserved (headerIn b) ≡ 0 →

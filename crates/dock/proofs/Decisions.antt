@@ -14,7 +14,8 @@ use Rattle.messages.specs.Layout.{req, ack, nak, Message}
 use Rattle.messages.specs.Reading.{Outcome, accepted, refused}
 use Rattle.messages.specs.declared.Head.{Head}
 use Rattle.pages.specs.Pages.{remaining, page, isLast}
-use Rattle.dock.specs.Data.{listed, goodIdentity, goodData, loaded, soundList, withPage, withStanding}
+use Rattle.pages.specs.Lists.{soundList}
+use Rattle.dock.specs.Data.{listed, goodIdentity, goodData, loaded, withPage, withStanding}
 use Rattle.dock.specs.Dock.{attentionCommand, refuses, turns, sends, decideLoad, reply, requestOf, asking, sending, decideRequest, decideMessage, sameRequest, isEmpty, givePage, giveIdentity, giveModes, giveOther, bare, declined, decidePolicy, decideAnswer, moved, decideSent, decideFailed}
 use Rattle.dock.specs.declared.Dock.{Dock}
 use Rattle.dock.specs.declared.Policy.{Policy}

@@ -15,7 +15,8 @@ use Rattle.messages.specs.Table.{oneToFive}
 use Rattle.messages.specs.Reading.{Outcome, accepted, refused}
 use Rattle.messages.specs.Writing.{writeRefusal}
 use Rattle.pages.specs.Pages.{remaining, isLast}
-use Rattle.dock.specs.Data.{listed, soundList, goodIdentity, goodData, freshDock, loaded, withPage, withStanding}
+use Rattle.pages.specs.Lists.{soundList}
+use Rattle.dock.specs.Data.{listed, goodIdentity, goodData, freshDock, loaded, withPage, withStanding}
 use Rattle.dock.specs.Dock.{identityCommand, svidsCommand, modesCommand, attentionCommand, Decision, refuses, turns, sends, refusedBy, acceptedBy, stepOf, decideLoad, requestOf, asking, sending, decideRequest, decideMessage, sameRequest, isEmpty, givePage, giveIdentity, giveModes, giveOther, bare, decidePolicy, decideAnswer, moved, decideSent, decideFailed}
 use Rattle.dock.specs.Sound.{Sound, SoundIn}
 use Rattle.dock.specs.declared.Dock.{Dock}

@@ -16,7 +16,8 @@ use Rattle.messages.specs.Writing.{wellShaped, writeRefusal, written}
 use Rattle.messages.proofs.RoundTrip.{read-bytes}
 use Rattle.pages.specs.Pages.{page, pages, readPages, NoZero}
 use Rattle.pages.proofs.Laws.{page-size, page-below, read-all}
-use Rattle.dock.specs.Data.{listed, soundList, isIn}
+use Rattle.pages.specs.Lists.{soundList, isIn}
+use Rattle.dock.specs.Data.{listed}
 use Rattle.dock.specs.Dock.{svidsCommand, Decision, refuses, turns, sends, refusedBy, acceptedBy, stepOf, bufferOf, Stepped, reply, decideLoad, decideMessage, decideAnswer, decideSent, decideFailed}
 use Rattle.dock.specs.Sound.{Sound}
 use Rattle.dock.specs.declared.Dock.{Dock}

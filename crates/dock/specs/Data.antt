@@ -1,10 +1,11 @@
 -- The dock's data and its limits (01, "The dock end").
 use Prim.Native.Nat.{ℕ, _-_}
-use mathlib.Core.Bool.{Bool, true, false, not, _&&_, _||_}
-use mathlib.Core.List.{List, [], _∷_, _++_}
-use lib.Dec.{leb, eqb}
+use mathlib.Core.Bool.{Bool, _&&_}
+use mathlib.Core.List.{List, _++_}
+use lib.Dec.{leb}
 use lib.ListN.{length, take, replicate}
 use Rattle.laws.specs.Padded.{padded}
+use Rattle.pages.specs.Lists.{soundList}
 use Rattle.dock.specs.declared.Dock.{Dock}
 use Rattle.dock.specs.declared.Standing.{Standing}
 use Rattle.dock.specs.declared.Standing.the-variants.{Ready}
@@ -15,15 +16,6 @@ mostSvids = 72
 -- the SVIDs that the dock lists
 abbrev pub listed : Dock → List ℕ
 listed d = take (d .count) (d .svids)
-
-unfoldable pub isIn : ℕ → List ℕ → Bool
-isIn svid [] = false
-isIn svid (s ∷ list) = eqb s svid || isIn svid list
-
--- none 0, all different
-unfoldable pub soundList : List ℕ → Bool
-soundList [] = true
-soundList (s ∷ list) = not (eqb s 0) && (not (isIn s list) && soundList list)
 
 -- 3 to 6 identity objects; 0 to 72 SVIDs, none 0, all different
 unfoldable pub goodIdentity : ℕ → Bool

@@ -1,40 +1,9 @@
-// Lists of SVIDs and of objects: the limits of a list, and its place in the dock's arrays.
+// Lists of SVIDs and of objects, and their place in the dock's arrays.
 ghost use mathlib.Core.Path.{_≡_};
 ghost use Prim.Native.Nat.{_≤_};
 ghost use lib.ListN.{length, take, getD};
 ghost use Rattle.laws.specs.Padded.{padded};
-ghost use Rattle.dock.specs.Data.{isIn, soundList, filled};
-
-fn is_in(svid: u16, list: &[u16]) -> bool
-    ensures { λ r. ⌜ r ≡ isIn svid (now (list .entry)) ⌝ }
-{
-    let mut i = 0;
-    while i < list.len() {
-        if list[i] == svid {
-            return true;
-        }
-        i += 1;
-    }
-    false
-}
-
-// None 0, all different.
-pub(crate) fn sound(list: &[u16]) -> bool
-    ensures { λ r. ⌜ r ≡ soundList (now (list .entry)) ⌝ }
-{
-    let mut i = 0;
-    while i < list.len() {
-        let svid = list[i];
-        if svid == 0 {
-            return false;
-        }
-        i += 1;
-        if is_in(svid, &list[i..]) {
-            return false;
-        }
-    }
-    true
-}
+ghost use Rattle.dock.specs.Data.{filled};
 
 // The list in an array of 72, with zeros behind it.
 pub(crate) fn svids_from(list: &[u16]) -> [u16; 72]

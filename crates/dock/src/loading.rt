@@ -8,7 +8,6 @@ use crate::Dock;
 use crate::Standing;
 use crate::Step;
 use crate::list::objects_from;
-use crate::list::sound;
 use crate::list::svids_from;
 use crate::replying::accepted;
 use crate::replying::refused;
@@ -38,7 +37,7 @@ fn good_data(identity: &[u32], svids: &[u16]) -> bool
     if 72 < svids.len() {
         return false;
     }
-    sound(svids)
+    pages::sound(svids)
 }
 
 fn dock_of(identity: &[u32], svids: &[u16]) -> Dock

@@ -1,3 +1,5 @@
 -- Laws on pages, a file for each topic.
+pub mod Judging
 pub mod Laws
 pub mod Making
+pub mod Scanning

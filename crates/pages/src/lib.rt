@@ -1,4 +1,11 @@
 // The pages of a list of SVIDs: twelve a page, two an object.
+mod list;
+mod taking;
+
+pub use list::is_in;
+pub use list::sound;
+pub use taking::Verdict;
+pub use taking::judge;
 ghost use mathlib.Core.Path.{_≡_};
 ghost use Prim.Native.Nat.{_<_};
 ghost use lib.ListN.{getD};

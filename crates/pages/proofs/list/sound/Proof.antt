@@ -3,10 +3,10 @@ use mathlib.Core.Path.{_≡_, refl, ap, sym, _∙_}
 use Prim.Native.Nat.{_≤_, _-_, _+_}
 use native.Mathlib.Omega.{arith}
 use lib.ListN.{length, drop, getD}
-use Rattle.dock.specs.Data.{isIn, soundList}
-use Rattle.dock.proofs.Lists.{sound-zero, sound-twice, sound-next, sound-none, rest-part}
-use Rattle.dock.proofs.list.sound.Statement.{statement}
-use Rattle.dock.proofs.list.sound.Tie as tie
+use Rattle.pages.specs.Lists.{isIn, soundList}
+use Rattle.pages.proofs.Scanning.{sound-zero, sound-twice, sound-next, sound-none, rest-part}
+use Rattle.pages.proofs.list.sound.Statement.{statement}
+use Rattle.pages.proofs.list.sound.Tie as tie
 
 abbrev Inv-loop : tie.InvT-loop
 Inv-loop list i₀ i = (i ≤ length list) × (soundList list ≡ soundList (drop i list))

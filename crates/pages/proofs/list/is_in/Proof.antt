@@ -3,10 +3,10 @@ use mathlib.Core.Path.{_≡_, refl, sym, _∙_}
 use Prim.Native.Nat.{_≤_, _-_}
 use native.Mathlib.Omega.{arith}
 use lib.ListN.{length, drop}
-use Rattle.dock.specs.Data.{isIn}
-use Rattle.dock.proofs.Lists.{in-found, in-next, in-none}
-use Rattle.dock.proofs.list.is_in.Statement.{statement}
-use Rattle.dock.proofs.list.is_in.Tie as tie
+use Rattle.pages.specs.Lists.{isIn}
+use Rattle.pages.proofs.Scanning.{in-found, in-next, in-none}
+use Rattle.pages.proofs.list.is_in.Statement.{statement}
+use Rattle.pages.proofs.list.is_in.Tie as tie
 
 abbrev Inv-loop : tie.InvT-loop
 Inv-loop svid list i₀ i = (i ≤ length list) × (isIn svid list ≡ isIn svid (drop i list))

@@ -1,0 +1,35 @@
+// Scanning a list of SVIDs.
+ghost use mathlib.Core.Path.{_≡_};
+ghost use Rattle.pages.specs.Lists.{isIn, soundList};
+
+// Does the list have the SVID?
+pub fn is_in(svid: u16, list: &[u16]) -> bool
+    ensures { λ r. ⌜ r ≡ isIn svid (now (list .entry)) ⌝ }
+{
+    let mut i = 0;
+    while i < list.len() {
+        if list[i] == svid {
+            return true;
+        }
+        i += 1;
+    }
+    false
+}
+
+// None 0, all different.
+pub fn sound(list: &[u16]) -> bool
+    ensures { λ r. ⌜ r ≡ soundList (now (list .entry)) ⌝ }
+{
+    let mut i = 0;
+    while i < list.len() {
+        let svid = list[i];
+        if svid == 0 {
+            return false;
+        }
+        i += 1;
+        if is_in(svid, &list[i..]) {
+            return false;
+        }
+    }
+    true
+}

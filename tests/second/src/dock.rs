@@ -4,13 +4,14 @@ use crate::messages::{
     self, ACK, ATTENTION, BUSY, ENTER, EXIT, IDENTITY, MODES, MOST_AFTER_HEADER, NAK, OBJECT_BYTES,
     REQ, SVIDS,
 };
-use crate::pages::page;
+use crate::pages::{is_list, page};
 use crate::refusals::{ACCEPTED, BROKEN_LIMITS, NOT_AWAITED, NOT_TAKEN_NOW};
-use std::collections::BTreeSet;
+
+pub use crate::messages::Request;
+pub use crate::pages::MOST_SVIDS;
 
 pub const LEAST_IDENTITY: usize = 3;
 pub const MOST_IDENTITY: usize = 6;
-pub const MOST_SVIDS: usize = 72;
 
 #[derive(Clone, Debug, PartialEq, Eq)]
 pub struct Dock {
@@ -30,14 +31,6 @@ pub enum Standing {
     Sending {
         moves_page: bool,
     },
-}
-
-/// What a request, policy's answer to it and the answer sent have in common.
-#[derive(Clone, Copy, Debug, PartialEq, Eq)]
-pub struct Request {
-    pub svid: u16,
-    pub command: u8,
-    pub position: u8,
 }
 
 #[derive(Clone, Copy, Debug, PartialEq, Eq)]
@@ -109,11 +102,7 @@ impl Dock {
         if message.kind != REQ || message.command == ATTENTION {
             return Err(NOT_AWAITED);
         }
-        let request = Request {
-            svid: message.svid,
-            command: message.command,
-            position: message.position,
-        };
+        let request = message.request();
         if !(IDENTITY..=EXIT).contains(&request.command) {
             return self.send(request, &Reply::new(NAK, &[]), out);
         }
@@ -209,9 +198,4 @@ impl Dock {
 
 fn is_identity(identity: &[u32]) -> bool {
     (LEAST_IDENTITY..=MOST_IDENTITY).contains(&identity.len())
-}
-
-fn is_list(svids: &[u16]) -> bool {
-    let different: BTreeSet<&u16> = svids.iter().collect();
-    svids.len() <= MOST_SVIDS && !svids.contains(&0) && different.len() == svids.len()
 }

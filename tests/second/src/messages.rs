@@ -50,6 +50,25 @@ pub struct Message {
     pub objects: Objects,
 }
 
+/// What a request has in common with each answer to it.
+#[derive(Clone, Copy, Debug, PartialEq, Eq)]
+pub struct Request {
+    pub svid: u16,
+    pub command: u8,
+    pub position: u8,
+}
+
+impl Message {
+    /// The request that this message is, or answers.
+    pub fn request(&self) -> Request {
+        Request {
+            svid: self.svid,
+            command: self.command,
+            position: self.position,
+        }
+    }
+}
+
 /// The objects after the header; the words past the count are 0.
 #[derive(Clone, Copy, Debug, PartialEq, Eq)]
 pub struct Objects {

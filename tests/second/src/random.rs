@@ -1,5 +1,9 @@
 //! A small seeded generator (xorshift, 64 bits), so that every run draws the same.
 
+pub const EDGE_SVIDS: [u16; 4] = [0x0001, 0xFF00, 0xFF01, 0xFFFF];
+/// One in so many is rare: so is an object or an SVID that is an edge.
+const RARE: usize = 8;
+
 pub struct Random {
     state: u64,
 }
@@ -32,5 +36,40 @@ impl Random {
 
     pub fn one_of<T: Copy>(&mut self, choices: &[T]) -> T {
         choices[self.below(choices.len())]
+    }
+
+    pub fn is_rare(&mut self) -> bool {
+        self.below(RARE) == 0
+    }
+
+    pub fn object(&mut self) -> u32 {
+        if self.is_rare() {
+            self.one_of(&[0, u32::MAX])
+        } else {
+            self.word()
+        }
+    }
+
+    pub fn objects(&mut self, count: usize) -> Vec<u32> {
+        (0..count).map(|_| self.object()).collect()
+    }
+
+    pub fn svid_but_zero(&mut self) -> u16 {
+        if self.is_rare() {
+            self.one_of(&EDGE_SVIDS)
+        } else {
+            self.svid().max(1)
+        }
+    }
+
+    pub fn different_svids(&mut self, count: usize) -> Vec<u16> {
+        let mut svids = Vec::new();
+        while svids.len() < count {
+            let svid = self.svid_but_zero();
+            if !svids.contains(&svid) {
+                svids.push(svid);
+            }
+        }
+        svids
     }
 }

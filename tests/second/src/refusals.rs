@@ -1,4 +1,4 @@
-//! The refusal numbers of document 01 that this package gives so far.
+//! The refusal numbers of document 01.
 
 pub const ACCEPTED: u8 = 0;
 pub const NOT_WHOLE_OBJECTS: u8 = 1;
@@ -7,6 +7,13 @@ pub const UNREAD_MAJOR: u8 = 3;
 pub const RESERVED_BIT: u8 = 4;
 pub const WRONG_SHAPE: u8 = 5;
 pub const NOT_AWAITED: u8 = 6;
+pub const AWAITING: u8 = 7;
+pub const VOIDED: u8 = 8;
 pub const NOT_TAKEN_NOW: u8 = 9;
 pub const BROKEN_LIMITS: u8 = 10;
 pub const SHORT_BUFFER: u8 = 11;
+/// The same number as for a buffer.
+pub const SHORT_RUN: u8 = SHORT_BUFFER;
+pub const NOT_HELD: u8 = 12;
+pub const BLOCKED: u8 = 13;
+pub const NO_END: u8 = 14;

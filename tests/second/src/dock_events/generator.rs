@@ -24,9 +24,6 @@ use crate::random::Random;
 const ASKED: [u8; 5] = [IDENTITY, SVIDS, MODES, ENTER, EXIT];
 const POLICY_ANSWERS: [PolicyAnswer; 3] =
     [PolicyAnswer::Give, PolicyAnswer::Nak, PolicyAnswer::Busy];
-const EDGE_SVIDS: [u16; 4] = [0x0001, PD_SID, 0xFF01, 0xFFFF];
-/// One message in so many comes as bytes, one object and one SVID in so many is an edge.
-const RARE: usize = 8;
 
 struct Generator {
     random: Random,
@@ -79,47 +76,11 @@ impl Generator {
         outcome
     }
 
-    fn is_rare(&mut self) -> bool {
-        self.random.below(RARE) == 0
-    }
-
-    fn object(&mut self) -> u32 {
-        if self.is_rare() {
-            self.random.one_of(&[0, u32::MAX])
-        } else {
-            self.random.word()
-        }
-    }
-
-    fn objects(&mut self, count: usize) -> Vec<u32> {
-        (0..count).map(|_| self.object()).collect()
-    }
-
-    /// An SVID other than 0.
-    fn svid(&mut self) -> u16 {
-        if self.is_rare() {
-            self.random.one_of(&EDGE_SVIDS)
-        } else {
-            self.random.svid().max(1)
-        }
-    }
-
-    fn different_svids(&mut self, count: usize) -> Vec<u16> {
-        let mut svids = Vec::new();
-        while svids.len() < count {
-            let svid = self.svid();
-            if !svids.contains(&svid) {
-                svids.push(svid);
-            }
-        }
-        svids
-    }
-
     /// A message with that header and so many drawn objects after it.
     fn message(&mut self, header: Header, after_header: usize) -> Outcome {
         let mut objects = vec![header.word()];
-        objects.extend(self.objects(after_header));
-        if self.is_rare() {
+        objects.extend(self.random.objects(after_header));
+        if self.random.is_rare() {
             let bytes = objects.iter().flat_map(|word| word.to_le_bytes()).collect();
             self.push(Event::Bytes { bytes })
         } else {
@@ -131,9 +92,9 @@ impl Generator {
     fn ask(&mut self, command: u8) -> Outcome {
         let svid = match command {
             IDENTITY | SVIDS => PD_SID,
-            MODES | ENTER | EXIT => self.svid(),
-            _ if self.is_rare() => 0,
-            _ => self.svid(),
+            MODES | ENTER | EXIT => self.random.svid_but_zero(),
+            _ if self.random.is_rare() => 0,
+            _ => self.random.svid_but_zero(),
         };
         let position = match command {
             IDENTITY | SVIDS | MODES => 0,
@@ -156,7 +117,7 @@ impl Generator {
 
     /// Policy's answer to the last request it was asked about.
     fn answer(&mut self, answer: PolicyAnswer, count: usize) -> Outcome {
-        let objects = self.objects(count);
+        let objects = self.random.objects(count);
         self.push(Event::Policy {
             answer,
             request: self.asked,
@@ -202,7 +163,7 @@ impl Generator {
     }
 
     fn load(&mut self, identity_count: usize, svids: Vec<u16>) -> Outcome {
-        let identity = self.objects(identity_count);
+        let identity = self.random.objects(identity_count);
         self.push(Event::Load { identity, svids })
     }
 }

@@ -1,12 +1,13 @@
 //! Damaged messages in every standing: cut, too long, with faults in the header, and misshapen.
 
 use super::situation::{Situation, STANDINGS};
-use super::{Event, Generator, EDGE_SVIDS};
+use super::{Event, Generator};
 use crate::header::{samples, Header, LAST_MINOR};
 use crate::messages::{
     ATTENTION, ENTER, IDENTITY, LAST_COMMAND, LAST_POSITION, MOST_AFTER_HEADER, OBJECT_BYTES, REQ,
     SVIDS,
 };
+use crate::random::EDGE_SVIDS;
 use crate::refusals::ACCEPTED;
 
 /// Every length up to one object past the longest message, and these.

@@ -40,7 +40,7 @@ impl Generator {
                     .one_of(&[PolicyAnswer::Give, PolicyAnswer::Give, answer]);
                 self.answer_well(answer);
             }
-            Standing::Sending { .. } if self.is_rare() => self.failed(),
+            Standing::Sending { .. } if self.random.is_rare() => self.failed(),
             Standing::Sending { .. } => self.sent(),
         }
     }
@@ -60,7 +60,7 @@ impl Generator {
 
     fn drawn_name(&mut self) {
         let request = Request {
-            svid: self.svid(),
+            svid: self.random.svid_but_zero(),
             command: self.random.byte() & LAST_COMMAND,
             position: self.random.byte() & LAST_POSITION,
         };
@@ -91,8 +91,8 @@ impl Generator {
     fn drawn_load(&mut self) {
         let identity = LEAST_IDENTITY + self.random.below(MOST_IDENTITY - LEAST_IDENTITY + 2);
         let length = self.random.below(MOST_SVIDS + 2);
-        let mut svids = self.different_svids(length);
-        if length > 0 && self.is_rare() {
+        let mut svids = self.random.different_svids(length);
+        if length > 0 && self.random.is_rare() {
             let place = self.random.below(length);
             svids[place] = self.random.one_of(&[0, svids[0], svids[length - 1]]);
         }

@@ -28,12 +28,15 @@ impl Generator {
         let mut edges = Vec::new();
         for identity in IDENTITY_COUNTS {
             let length = self.random.below(MOST_SVIDS + 1);
-            edges.push((identity, self.different_svids(length)));
+            edges.push((identity, self.random.different_svids(length)));
         }
         for length in LENGTHS {
-            edges.push((LEAST_IDENTITY, self.different_svids(length)));
+            edges.push((LEAST_IDENTITY, self.random.different_svids(length)));
         }
-        edges.push((LEAST_IDENTITY - 1, self.different_svids(MOST_SVIDS + 1)));
+        edges.push((
+            LEAST_IDENTITY - 1,
+            self.random.different_svids(MOST_SVIDS + 1),
+        ));
         edges.push((MOST_IDENTITY + 1, vec![0]));
         edges.push((LEAST_IDENTITY, vec![0]));
         edges.push((LEAST_IDENTITY, vec![1, 1]));
@@ -50,7 +53,7 @@ impl Generator {
     }
 
     fn duplicate(&mut self, length: usize, first: usize, distance: usize) {
-        let mut svids = self.different_svids(length);
+        let mut svids = self.random.different_svids(length);
         svids[first + distance] = svids[first];
         self.open_list();
         self.load_and_show((LEAST_IDENTITY, svids));
@@ -60,7 +63,7 @@ impl Generator {
     fn zeros(&mut self) {
         for length in LENGTHS_WITH_ZERO {
             for place in [0, self.random.below(length), length - 1] {
-                let mut svids = self.different_svids(length);
+                let mut svids = self.random.different_svids(length);
                 svids[place] = 0;
                 self.open_list();
                 self.load_and_show((MOST_IDENTITY, svids));
@@ -73,7 +76,7 @@ impl Generator {
         let accepted = self.load(identity_count, svids).refusal == ACCEPTED;
         if self.is_ready() {
             self.show_page();
-            if accepted || self.is_rare() {
+            if accepted || self.random.is_rare() {
                 self.identify();
             }
         }

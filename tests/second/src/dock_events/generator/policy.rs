@@ -80,7 +80,7 @@ impl Generator {
     fn answer_another(&mut self, request: Request) {
         let answer = self.random.one_of(&POLICY_ANSWERS);
         let count = self.random.one_of(&[0, 0, 1]);
-        let objects = self.objects(count);
+        let objects = self.random.objects(count);
         self.push(Event::Policy {
             answer,
             request,

@@ -66,7 +66,7 @@ impl Generator {
 
     pub(super) fn load_list(&mut self, length: usize) {
         let more_identity = self.random.below(MOST_IDENTITY - LEAST_IDENTITY + 1);
-        let svids = self.different_svids(length);
+        let svids = self.random.different_svids(length);
         self.load(LEAST_IDENTITY + more_identity, svids);
     }
 

@@ -1,0 +1,122 @@
+//! The messages that reach the laptop end: the awaited answers, and Attention.
+
+use super::{named_positions, Accepted, Answer, Candidate, Laptop, Reason, Runs, Told, MOST_PAGES};
+use crate::catalogue::Catalogue;
+use crate::messages::{self, Message, ACK, ATTENTION, ENTER, IDENTITY, MODES, NAK, REQ, SVIDS};
+use crate::pages::{take_page, Taken};
+use crate::refusals::{NOT_AWAITED, NO_END, VOIDED};
+use std::mem;
+
+impl Laptop {
+    /// Takes a message, or refuses with 11 for a short run, then 1 to 5, then 6, 8, 14.
+    pub fn message(&mut self, bytes: &[u8], runs: &mut Runs) -> Answer {
+        runs.check()?;
+        let message = messages::read(bytes)?;
+        if message.command == ATTENTION {
+            return Ok(Accepted::telling(Told::Attention(message)));
+        }
+        if message.kind == REQ || self.awaited != Some(message.request()) {
+            self.drop_on_late_page(&message);
+            return Err(NOT_AWAITED);
+        }
+        self.awaited = None;
+        self.take_answer(&message, runs)
+    }
+
+    /// A page that comes while the list is open and nothing is awaited may have been confirmed.
+    fn drop_on_late_page(&mut self, message: &Message) {
+        let is_page = message.command == SVIDS && message.kind == ACK;
+        let list_is_open = matches!(self.candidate, Candidate::ListOpen(_));
+        if is_page && list_is_open && self.awaited.is_none() {
+            self.candidate = Candidate::None;
+        }
+    }
+
+    /// Each answer about the catalogue says what candidate it leaves; a refusal leaves none.
+    fn take_answer(&mut self, message: &Message, runs: &mut Runs) -> Answer {
+        self.candidate = match (message.command, mem::take(&mut self.candidate)) {
+            (IDENTITY, _) => identity_answer(message),
+            (SVIDS, Candidate::ListOpen(gathered)) => self.list_answer(gathered, message, runs)?,
+            (MODES, Candidate::ListDone(gathered)) => self.modes_answer(gathered, message, runs)?,
+            (_, candidate) => {
+                self.candidate = candidate;
+                return Ok(self.mark_answer(message));
+            }
+        };
+        Ok(Accepted::default())
+    }
+
+    fn list_answer(
+        &mut self,
+        gathered: Catalogue,
+        message: &Message,
+        runs: &mut Runs,
+    ) -> Result<Candidate, u8> {
+        match message.kind {
+            ACK => self.page_answer(gathered, message.objects.as_slice()),
+            NAK if gathered.svids.is_empty() => Ok(self.publish(gathered, runs)),
+            NAK => Err(VOIDED),
+            _ => Ok(Candidate::ListOpen(gathered)),
+        }
+    }
+
+    fn page_answer(&mut self, gathered: Catalogue, objects: &[u32]) -> Result<Candidate, u8> {
+        self.page_count += 1;
+        match take_page(&gathered.svids, objects) {
+            Taken::Bad => Err(VOIDED),
+            Taken::Ends(svids) => Ok(Candidate::ListDone(Catalogue { svids, ..gathered })),
+            _ if self.page_count >= MOST_PAGES => Err(NO_END),
+            Taken::More(svids) => Ok(Candidate::ListOpen(Catalogue { svids, ..gathered })),
+            Taken::Repeat => Ok(Candidate::ListOpen(gathered)),
+        }
+    }
+
+    fn modes_answer(
+        &mut self,
+        mut gathered: Catalogue,
+        message: &Message,
+        runs: &mut Runs,
+    ) -> Result<Candidate, u8> {
+        match message.kind {
+            ACK => gathered.store_modes(message.objects.as_slice(), runs.candidate),
+            NAK => return Err(VOIDED),
+            _ => return Ok(Candidate::ListDone(gathered)),
+        }
+        match gathered.first_without_modes() {
+            Some(_) => Ok(Candidate::ListDone(gathered)),
+            None => Ok(self.publish(gathered, runs)),
+        }
+    }
+
+    /// Holds the catalogue and leaves no candidate. No mode is entered while there is one.
+    fn publish(&mut self, catalogue: Catalogue, runs: &mut Runs) -> Candidate {
+        catalogue.copy_modes(runs.candidate, runs.held);
+        self.held = Some(catalogue);
+        Candidate::None
+    }
+
+    fn mark_answer(&mut self, message: &Message) -> Accepted {
+        let request = message.request();
+        let reason = match message.kind {
+            ACK => {
+                let positions = named_positions(message.position);
+                let set = self.entered.entry(message.svid).or_default();
+                match message.command {
+                    ENTER => *set |= positions,
+                    _ => *set &= !positions,
+                }
+                return Accepted::default();
+            }
+            NAK => Reason::Nak,
+            _ => Reason::Busy,
+        };
+        Accepted::telling(Told::Unmarked { request, reason })
+    }
+}
+
+fn identity_answer(message: &Message) -> Candidate {
+    match message.kind {
+        ACK => Candidate::ListOpen(Catalogue::of_identity(message.objects.as_slice())),
+        _ => Candidate::None,
+    }
+}

@@ -1,0 +1,115 @@
+//! The owner's calls: next, start over, drop, enter and exit.
+
+use super::{named_positions, Accepted, Answer, Candidate, Laptop, Runs};
+use crate::messages::{
+    self, Request, ENTER, EXIT, IDENTITY, LAST_POSITION, MODES, OBJECT_BYTES, PD_SID, REQ, SVIDS,
+};
+use crate::refusals::{ACCEPTED, AWAITING, BLOCKED, NOT_HELD};
+
+impl Laptop {
+    /// Sends the request that the candidate needs next, or refuses with 11 for a short run, then 7,
+    /// 13 and 11 for a short buffer.
+    pub fn next(&mut self, runs: &mut Runs, out: &mut [u8]) -> Answer {
+        self.check_call(runs)?;
+        self.check_none_entered()?;
+        let missing = match &self.candidate {
+            Candidate::None => None,
+            Candidate::ListOpen(_) => Some((PD_SID, SVIDS)),
+            Candidate::ListDone(catalogue) => {
+                catalogue.first_without_modes().map(|svid| (svid, MODES))
+            }
+        };
+        let (svid, command) = missing.unwrap_or((PD_SID, IDENTITY));
+        self.send(svid, command, 0, out)
+    }
+
+    /// Drops the candidate and sends Identity, or refuses as next does.
+    pub fn start_over(&mut self, runs: &mut Runs, out: &mut [u8]) -> Answer {
+        self.check_call(runs)?;
+        self.check_none_entered()?;
+        let answer = self.send(PD_SID, IDENTITY, 0, out)?;
+        self.candidate = Candidate::None;
+        Ok(answer)
+    }
+
+    /// Drops the candidate, or refuses with 11 for a short run, then 7.
+    pub fn drop(&mut self, runs: &mut Runs) -> Answer {
+        self.check_call(runs)?;
+        self.candidate = Candidate::None;
+        Ok(Accepted::default())
+    }
+
+    /// Sends Enter, or refuses with 11 for a short run, then 7, 13 for a candidate, 12, 13 for an
+    /// entered mode and 11 for a short buffer.
+    pub fn enter(&mut self, svid: u16, position: u8, runs: &mut Runs, out: &mut [u8]) -> Answer {
+        self.check_call(runs)?;
+        if self.candidate != Candidate::None {
+            return Err(BLOCKED);
+        }
+        if !self.holds_mode(svid, position) {
+            return Err(NOT_HELD);
+        }
+        if self.entered_set(svid) & named_positions(position) != 0 {
+            return Err(BLOCKED);
+        }
+        self.send(svid, ENTER, position, out)
+    }
+
+    /// Sends Exit, or refuses with 11 for a short run, then 7, 12, 13 and 11 for a short buffer.
+    pub fn exit(&mut self, svid: u16, position: u8, runs: &mut Runs, out: &mut [u8]) -> Answer {
+        self.check_call(runs)?;
+        let is_all = position == LAST_POSITION && self.holds_svid(svid);
+        if !is_all && !self.holds_mode(svid, position) {
+            return Err(NOT_HELD);
+        }
+        if self.entered_set(svid) & named_positions(position) == 0 {
+            return Err(BLOCKED);
+        }
+        self.send(svid, EXIT, position, out)
+    }
+
+    fn check_call(&self, runs: &Runs) -> Result<(), u8> {
+        runs.check()?;
+        if self.awaited.is_some() {
+            return Err(AWAITING);
+        }
+        Ok(())
+    }
+
+    fn check_none_entered(&self) -> Result<(), u8> {
+        if self.entered.values().any(|&set| set != 0) {
+            return Err(BLOCKED);
+        }
+        Ok(())
+    }
+
+    fn holds_svid(&self, svid: u16) -> bool {
+        self.held.as_ref().is_some_and(|held| held.has_svid(svid))
+    }
+
+    fn holds_mode(&self, svid: u16, position: u8) -> bool {
+        self.held
+            .as_ref()
+            .is_some_and(|held| held.has_mode(svid, position))
+    }
+
+    /// Writes the request and awaits its answer, or refuses with 11 and stays as it was.
+    fn send(&mut self, svid: u16, command: u8, position: u8, out: &mut [u8]) -> Answer {
+        let refusal = messages::write(svid, command, REQ, position, &[], out);
+        if refusal != ACCEPTED {
+            return Err(refusal);
+        }
+        if command == IDENTITY {
+            self.page_count = 0;
+        }
+        self.awaited = Some(Request {
+            svid,
+            command,
+            position,
+        });
+        Ok(Accepted {
+            length: OBJECT_BYTES,
+            told: None,
+        })
+    }
+}

@@ -1,0 +1,33 @@
+//! Answers a stream of laptop events, a line each.
+
+use super::{Event, Run};
+use crate::stream::print_lines;
+use std::io::{self, BufRead, Write};
+
+pub fn print_answers(input: &mut impl BufRead, output: &mut impl Write) -> io::Result<()> {
+    writeln!(output, "event refusal sent pages held")?;
+    let mut run = Run::default();
+    print_lines("events", input, output, |number, input, output| {
+        let event = Event::take(input)?;
+        Ok(print_answer(number, &event, &mut run, output)?)
+    })
+}
+
+fn print_answer(
+    number: usize,
+    event: &Event,
+    run: &mut Run,
+    output: &mut impl Write,
+) -> io::Result<()> {
+    let outcome = run.take(event);
+    write!(output, "{number} {} ", outcome.refusal)?;
+    match outcome.sent {
+        Some(header) => write!(output, "{header:08X}")?,
+        None => write!(output, "-")?,
+    }
+    write!(output, " {} ", run.laptop().page_count())?;
+    match run.laptop().held() {
+        Some(held) => writeln!(output, "{}", held.svids.len()),
+        None => writeln!(output, "-"),
+    }
+}

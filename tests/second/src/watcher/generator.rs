@@ -1,0 +1,175 @@
+//! Makes the events: the cases of 01, then sequences that reach every rule of the laptop end.
+
+mod bad_pages;
+mod cases;
+mod damage;
+mod drawn;
+mod lists;
+mod messages;
+mod modes;
+mod situation;
+mod two_hundred;
+mod unheld;
+
+use super::{Event, Outcome, Run};
+use crate::header::{Header, LAST_MINOR, LAST_READ_MAJOR};
+use crate::laptop::Candidate;
+use crate::messages::{
+    Request, ACK, BUSY, IDENTITY, LAST_POSITION, MODES, MOST_AFTER_HEADER, NAK, PD_SID, SVIDS,
+};
+use crate::pages::{page, PAGE_SVIDS};
+use crate::random::Random;
+
+const LEAST_IDENTITY: usize = 3;
+const ANSWERS: [u8; 3] = [ACK, NAK, BUSY];
+
+struct Generator {
+    random: Random,
+    /// The laptop under the events so far.
+    run: Run,
+    /// The last request sent.
+    asked: Request,
+    events: Vec<Event>,
+}
+
+/// All events of a seed, in the order of the stream. Nothing takes a held catalogue away, so the
+/// sequences that need none come before the cases.
+pub fn generate(seed: u64) -> Vec<Event> {
+    let mut generator = Generator {
+        random: Random::from_seed(seed),
+        run: Run::default(),
+        asked: Request {
+            svid: PD_SID,
+            command: IDENTITY,
+            position: 0,
+        },
+        events: Vec::new(),
+    };
+    generator.unheld();
+    generator.cases();
+    generator.lists();
+    generator.two_hundred();
+    generator.bad_pages();
+    generator.modes();
+    generator.calls_everywhere();
+    generator.messages_everywhere();
+    generator.late_answers();
+    generator.damage();
+    generator.drawn();
+    generator.events
+}
+
+impl Generator {
+    fn push(&mut self, event: Event) -> Outcome {
+        let outcome = self.run.take(&event);
+        if let Some(request) = self.run.laptop().awaited() {
+            self.asked = request;
+        }
+        self.events.push(event);
+        outcome
+    }
+
+    fn next(&mut self) -> Outcome {
+        self.push(Event::Next)
+    }
+
+    fn message(&mut self, header: Header, after: &[u32]) -> Outcome {
+        let objects = [&[header.word()], after].concat();
+        self.push(Event::Message { objects })
+    }
+
+    /// An answer to the last request, in a version that is read.
+    fn answer(&mut self, kind: u8, after: &[u32]) -> Outcome {
+        let Request {
+            svid,
+            command,
+            position,
+        } = self.asked;
+        let header = Header {
+            major: self.random.byte() & LAST_READ_MAJOR,
+            minor: self.random.byte() & LAST_MINOR,
+            ..Header::ours(svid, command, kind, position)
+        };
+        self.message(header, after)
+    }
+
+    /// An answer to the last request, with drawn objects; a page has one SVID and ends the list.
+    fn answer_well(&mut self, kind: u8) -> Outcome {
+        let objects = match (kind, self.asked.command) {
+            (ACK, IDENTITY) => {
+                let more = self.random.below(MOST_AFTER_HEADER - LEAST_IDENTITY + 1);
+                self.random.objects(LEAST_IDENTITY + more)
+            }
+            (ACK, SVIDS) => vec![u32::from(self.random.svid_but_zero()) << u16::BITS],
+            (ACK, MODES) => {
+                let count = 1 + self.random.below(MOST_AFTER_HEADER);
+                self.random.objects(count)
+            }
+            _ => Vec::new(),
+        };
+        self.answer(kind, &objects)
+    }
+
+    fn acknowledge(&mut self) -> Outcome {
+        self.answer_well(ACK)
+    }
+
+    /// Asks for a page and gets these objects.
+    fn page(&mut self, objects: &[u32]) -> Outcome {
+        self.next();
+        self.answer(ACK, objects)
+    }
+
+    /// Goes back to nothing awaited, no mode entered and no candidate.
+    fn settle(&mut self) {
+        if self.run.laptop().awaited().is_some() {
+            self.push(Event::ProtocolError);
+        }
+        for svid in self.held_svids() {
+            if self.run.laptop().entered_count(svid) > 0 {
+                let position = LAST_POSITION;
+                self.push(Event::Exit { svid, position });
+                self.acknowledge();
+            }
+        }
+        if *self.run.laptop().candidate() != Candidate::None {
+            self.push(Event::Drop);
+        }
+    }
+
+    /// Opens an empty list.
+    fn open(&mut self) {
+        self.settle();
+        self.next();
+        self.acknowledge();
+    }
+
+    /// Gathers so many full pages, and no end.
+    fn gather(&mut self, svids: &[u16], pages: usize) {
+        self.open();
+        for number in 0..pages {
+            self.page(&page(svids, number).objects);
+        }
+    }
+
+    /// Gathers the list to its end.
+    fn list(&mut self, svids: &[u16]) {
+        self.gather(svids, svids.len() / PAGE_SVIDS + 1);
+    }
+
+    /// Holds a catalogue in which each SVID has so many modes.
+    fn hold(&mut self, modes: &[(u16, usize)]) {
+        let svids: Vec<u16> = modes.iter().map(|&(svid, _)| svid).collect();
+        self.list(&svids);
+        for &(_, count) in modes {
+            self.next();
+            let objects = self.random.objects(count);
+            self.answer(ACK, &objects);
+        }
+    }
+
+    fn held_svids(&self) -> Vec<u16> {
+        let held = self.run.laptop().held();
+        held.map(|held| held.svids.clone()).unwrap_or_default()
+    }
+}

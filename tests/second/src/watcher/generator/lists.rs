@@ -1,0 +1,64 @@
+//! Whole gatherings of 0 to 72 SVIDs, some pages of which come twice, after BUSY or after a timer.
+
+use super::{Event, Generator};
+use crate::messages::{ACK, BUSY, MOST_AFTER_HEADER, NAK};
+use crate::pages::{page, MOST_SVIDS, PAGE_SVIDS};
+
+impl Generator {
+    pub(super) fn lists(&mut self) {
+        for length in 0..=MOST_SVIDS {
+            let svids = self.random.different_svids(length);
+            self.open();
+            self.hinder();
+            if svids.is_empty() {
+                self.next();
+                self.answer_well(NAK);
+            }
+            for number in 0..page_count(length) {
+                self.hinder();
+                self.page(&page(&svids, number).objects);
+                let ends_list = number == length / PAGE_SVIDS;
+                if !ends_list && self.random.below(2) == 0 {
+                    self.page(&page(&svids, number).objects);
+                }
+            }
+            self.modes_of_list(length);
+        }
+    }
+
+    fn modes_of_list(&mut self, length: usize) {
+        for _ in 0..length {
+            if self.random.is_rare() {
+                self.hinder();
+            }
+            self.next();
+            let count = 1 + self.random.below(MOST_AFTER_HEADER);
+            let objects = self.random.objects(count);
+            self.answer(ACK, &objects);
+        }
+    }
+
+    /// At times a request that comes to nothing.
+    pub(super) fn hinder(&mut self) {
+        let end = match self.random.below(4) {
+            0 => {
+                self.next();
+                self.answer_well(BUSY);
+                return;
+            }
+            1 => Event::ResponseTimer,
+            2 => Event::ProtocolError,
+            _ => return,
+        };
+        self.next();
+        self.push(end);
+    }
+}
+
+/// An empty list has no pages.
+fn page_count(length: usize) -> usize {
+    match length {
+        0 => 0,
+        _ => length / PAGE_SVIDS + 1,
+    }
+}

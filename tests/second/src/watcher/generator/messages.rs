@@ -1,0 +1,75 @@
+//! Messages of every command and type in every situation, and answers that come late.
+
+use super::situation::{FIRST, IDLE, SECOND, TIMERS, WAITING};
+use super::{Event, Generator, ANSWERS};
+use crate::header::Header;
+use crate::messages::{
+    ACK, ATTENTION, ENTER, EXIT, IDENTITY, LAST_COMMAND, LAST_KIND, LAST_POSITION, MODES,
+    MOST_AFTER_HEADER, NAK, PD_SID, REQ, SVIDS,
+};
+
+/// Each SVID, command and position that an answer can name in the situations.
+const NAMED: [(u16, u8, u8); 10] = [
+    (PD_SID, IDENTITY, 0),
+    (PD_SID, SVIDS, 0),
+    (FIRST, MODES, 0),
+    (SECOND, MODES, 0),
+    (FIRST, ENTER, 1),
+    (FIRST, ENTER, 2),
+    (SECOND, ENTER, 1),
+    (FIRST, EXIT, 1),
+    (FIRST, EXIT, LAST_POSITION),
+    (SECOND, EXIT, 1),
+];
+
+impl Generator {
+    pub(super) fn messages_everywhere(&mut self) {
+        for situation in IDLE.into_iter().chain(WAITING) {
+            let messages = self.all_messages();
+            self.everything_in(situation, &messages);
+        }
+    }
+
+    fn all_messages(&mut self) -> Vec<Event> {
+        let mut messages = Vec::new();
+        for (svid, command, position) in NAMED {
+            for kind in 0..=LAST_KIND {
+                let header = Header::ours(svid, command, kind, position);
+                let counts = match (kind, command) {
+                    (ACK, IDENTITY | SVIDS | MODES) => 0..=MOST_AFTER_HEADER,
+                    _ => 0..=1,
+                };
+                messages.extend(counts.map(|count| self.drawn_message(header, count)));
+            }
+        }
+        for command in [0, ATTENTION, ATTENTION + 1, LAST_COMMAND] {
+            for kind in [REQ, ACK, NAK] {
+                let header = Header::usual(command, kind);
+                messages.extend((0..=2).map(|count| self.drawn_message(header, count)));
+            }
+        }
+        messages
+    }
+
+    pub(super) fn drawn_message(&mut self, header: Header, count: usize) -> Event {
+        let objects = [&[header.word()][..], &self.random.objects(count)].concat();
+        Event::Message { objects }
+    }
+
+    /// Answers after a timer or a protocol error has ended the wait: with nothing awaited, and
+    /// with the same request sent again.
+    pub(super) fn late_answers(&mut self) {
+        for situation in WAITING {
+            for timer in TIMERS {
+                for kind in ANSWERS {
+                    self.set_up(situation);
+                    self.push(timer.clone());
+                    self.answer_well(kind);
+                    self.next();
+                    self.answer_well(kind);
+                    self.answer_well(ACK);
+                }
+            }
+        }
+    }
+}

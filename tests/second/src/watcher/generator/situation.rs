@@ -1,0 +1,146 @@
+//! The situations of a laptop end, by candidate and wait, and the owner's calls and timers in each.
+
+use super::{Event, Generator};
+use crate::messages::LAST_POSITION;
+use crate::pages::PAGE_SVIDS;
+
+pub const FIRST: u16 = 0xFF01;
+pub const SECOND: u16 = 0x8087;
+const LISTED: [u16; 2] = [FIRST, SECOND];
+const UNLISTED: u16 = 0x0003;
+
+#[derive(Clone, Copy, PartialEq, Eq)]
+pub enum Situation {
+    NoCandidate,
+    ListOpen,
+    PageGathered,
+    ListDone,
+    ModesBegun,
+    Entered,
+    AwaitsIdentity,
+    AwaitsFirstPage,
+    AwaitsPage,
+    AwaitsModes,
+    AwaitsLastModes,
+    AwaitsEnter,
+    AwaitsExit,
+    AwaitsExitOfAll,
+}
+
+pub const IDLE: [Situation; 6] = [
+    Situation::NoCandidate,
+    Situation::ListOpen,
+    Situation::PageGathered,
+    Situation::ListDone,
+    Situation::ModesBegun,
+    Situation::Entered,
+];
+pub const WAITING: [Situation; 8] = [
+    Situation::AwaitsIdentity,
+    Situation::AwaitsFirstPage,
+    Situation::AwaitsPage,
+    Situation::AwaitsModes,
+    Situation::AwaitsLastModes,
+    Situation::AwaitsEnter,
+    Situation::AwaitsExit,
+    Situation::AwaitsExitOfAll,
+];
+
+pub const TIMERS: [Event; 4] = [
+    Event::ResponseTimer,
+    Event::EntryTimer,
+    Event::ExitTimer,
+    Event::ProtocolError,
+];
+const ASKING: [Event; 3] = [Event::Next, Event::StartOver, Event::Drop];
+const NAMED_MODES: [(u16, u8); 8] = [
+    (FIRST, 1),
+    (FIRST, 2),
+    (FIRST, 0),
+    (FIRST, LAST_POSITION),
+    (SECOND, 1),
+    (SECOND, LAST_POSITION),
+    (UNLISTED, 1),
+    (UNLISTED, LAST_POSITION),
+];
+
+impl Generator {
+    /// Every event but a message, in every situation.
+    pub(super) fn calls_everywhere(&mut self) {
+        let modes = NAMED_MODES.iter().flat_map(|&(svid, position)| {
+            [
+                Event::Enter { svid, position },
+                Event::Exit { svid, position },
+            ]
+        });
+        let calls: Vec<Event> = ASKING.into_iter().chain(TIMERS).chain(modes).collect();
+        for situation in IDLE.into_iter().chain(WAITING) {
+            self.everything_in(situation, &calls);
+        }
+    }
+
+    /// Each of the events in the situation. After one that changes the laptop, and after the last,
+    /// comes a next, which shows what the laptop has come to.
+    pub(super) fn everything_in(&mut self, situation: Situation, events: &[Event]) {
+        self.set_up(situation);
+        for event in events {
+            let before = self.run.laptop().clone();
+            self.push(event.clone());
+            if *self.run.laptop() != before {
+                self.next();
+                self.set_up(situation);
+            }
+        }
+        self.next();
+    }
+
+    pub(super) fn set_up(&mut self, situation: Situation) {
+        self.settle();
+        match situation {
+            Situation::NoCandidate => {}
+            Situation::ListOpen => self.open(),
+            Situation::PageGathered => {
+                let svids = self.random.different_svids(PAGE_SVIDS);
+                self.gather(&svids, 1);
+            }
+            Situation::ListDone => self.list(&LISTED),
+            Situation::ModesBegun => {
+                self.set_up(Situation::AwaitsModes);
+                self.acknowledge();
+            }
+            Situation::Entered => {
+                self.set_up(Situation::AwaitsEnter);
+                self.acknowledge();
+            }
+            Situation::AwaitsEnter => self.await_enter(),
+            Situation::AwaitsExit => self.await_exit(1),
+            Situation::AwaitsExitOfAll => self.await_exit(LAST_POSITION),
+            Situation::AwaitsIdentity => self.await_after(Situation::NoCandidate),
+            Situation::AwaitsFirstPage => self.await_after(Situation::ListOpen),
+            Situation::AwaitsPage => self.await_after(Situation::PageGathered),
+            Situation::AwaitsModes => self.await_after(Situation::ListDone),
+            Situation::AwaitsLastModes => self.await_after(Situation::ModesBegun),
+        }
+    }
+
+    fn await_after(&mut self, situation: Situation) {
+        self.set_up(situation);
+        self.next();
+    }
+
+    fn await_enter(&mut self) {
+        if self.held_svids() != LISTED {
+            self.hold(&[(FIRST, 2), (SECOND, 1)]);
+        }
+        self.push(Event::Enter {
+            svid: FIRST,
+            position: 1,
+        });
+    }
+
+    fn await_exit(&mut self, position: u8) {
+        self.set_up(Situation::Entered);
+        let svid = FIRST;
+        self.push(Event::Exit { svid, position });
+    }
+}

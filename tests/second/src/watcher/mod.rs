@@ -1,0 +1,11 @@
+//! The watcher program (01, "Catalogue bytes and the watcher program"): laptop events, their
+//! stream, making and counting.
+
+pub mod answers;
+mod event;
+pub mod generator;
+mod run;
+pub mod tally;
+
+pub use event::Event;
+pub use run::{Outcome, Run};

@@ -1,0 +1,76 @@
+//! A laptop with all that is lent to it, driven by events.
+
+use super::Event;
+use crate::catalogue::RUN_WORDS;
+use crate::laptop::{Answer, Laptop, Runs};
+use crate::messages::OBJECT_BYTES;
+use crate::refusals::ACCEPTED;
+
+pub struct Run {
+    laptop: Laptop,
+    held: Vec<u32>,
+    candidate: Vec<u32>,
+    /// Room for a request, which is one object.
+    buffer: [u8; OBJECT_BYTES],
+}
+
+/// What an event led to.
+#[derive(Clone, Copy, Debug, PartialEq, Eq)]
+pub struct Outcome {
+    pub refusal: u8,
+    /// The header of the request to send, if any.
+    pub sent: Option<u32>,
+}
+
+impl Default for Run {
+    fn default() -> Self {
+        Run {
+            laptop: Laptop::fresh(),
+            held: vec![0; RUN_WORDS],
+            candidate: vec![0; RUN_WORDS],
+            buffer: [0; OBJECT_BYTES],
+        }
+    }
+}
+
+impl Run {
+    pub fn laptop(&self) -> &Laptop {
+        &self.laptop
+    }
+
+    pub fn take(&mut self, event: &Event) -> Outcome {
+        match self.attempt(event) {
+            Ok(accepted) => Outcome {
+                refusal: ACCEPTED,
+                sent: (accepted.length > 0).then(|| u32::from_le_bytes(self.buffer)),
+            },
+            Err(refusal) => Outcome {
+                refusal,
+                sent: None,
+            },
+        }
+    }
+
+    fn attempt(&mut self, event: &Event) -> Answer {
+        let runs = &mut Runs {
+            held: &mut self.held,
+            candidate: &mut self.candidate,
+        };
+        let (laptop, buffer) = (&mut self.laptop, &mut self.buffer);
+        match event {
+            Event::Message { objects } => {
+                let bytes: Vec<u8> = objects.iter().flat_map(|word| word.to_le_bytes()).collect();
+                laptop.message(&bytes, runs)
+            }
+            Event::Next => laptop.next(runs, buffer),
+            Event::StartOver => laptop.start_over(runs, buffer),
+            Event::Drop => laptop.drop(runs),
+            Event::ResponseTimer => laptop.response_timer(),
+            Event::EntryTimer => laptop.entry_timer(),
+            Event::ExitTimer => laptop.exit_timer(),
+            Event::ProtocolError => laptop.protocol_error(),
+            Event::Enter { svid, position } => laptop.enter(*svid, *position, runs, buffer),
+            Event::Exit { svid, position } => laptop.exit(*svid, *position, runs, buffer),
+        }
+    }
+}

@@ -1,22 +1,21 @@
 -- What the dock keeps, by the promises of its calls.
 use mathlib.Core.Path.{_≡_, refl, sym, _∙_}
-use mathlib.Core.Bool.{Bool, true, false, cond, not, _&&_}
-use mathlib.Core.List.{List, [], _∷_}
-use Prim.Native.Nat.{ℕ, zero, suc, _+_, _/_, _^_, _≤_}
+use mathlib.Core.Bool.{Bool, true, false, cond}
+use mathlib.Core.List.{List}
+use Prim.Native.Nat.{ℕ, _+_, _/_, _^_, _≤_}
 use native.Mathlib.Omega.{arith}
 use lib.Dec.{leb, eqb}
 use lib.ListN.{length}
-use borrow.Author.Tests.{eqb-false, le-leb, not-true}
+use borrow.Author.Tests.{le-leb}
 use Rattle.laws.specs.Bounded.{Below}
-use Rattle.laws.proofs.Lines.{and-left, and-right}
 use Rattle.messages.specs.Layout.{ack, Message, messageBytes}
 use Rattle.messages.specs.Table.{pdSid, rowOf, countsOf, fits, shape}
 use Rattle.messages.specs.Reading.{accepted, readOutcome}
 use Rattle.messages.specs.Writing.{wellShaped, writeRefusal, written}
 use Rattle.messages.proofs.RoundTrip.{read-bytes}
-use Rattle.pages.specs.Pages.{page, pages, readPages, NoZero}
+use Rattle.pages.specs.Pages.{page, pages, readPages}
+use Rattle.pages.proofs.Gathering.{sound-no-zero}
 use Rattle.pages.proofs.Laws.{page-size, page-below, read-all}
-use Rattle.pages.specs.Lists.{soundList, isIn}
 use Rattle.dock.specs.Data.{listed}
 use Rattle.dock.specs.Dock.{svidsCommand, Decision, refuses, turns, sends, refusedBy, acceptedBy, stepOf, bufferOf, Stepped, reply, decideLoad, decideMessage, decideAnswer, decideSent, decideFailed}
 use Rattle.dock.specs.Sound.{Sound}
@@ -88,14 +87,5 @@ page-accepted list p b =
     (page-shape (page list p) (page-size list p .0) (page-size list p .1))
 
 -- the pages of a sound dock, read off in order, are its list
-sound-no-zero : (list : List ℕ) → soundList list ≡ true → NoZero list
-unfolding soundList
-sound-no-zero [] e k h z = omega arith
-sound-no-zero (s ∷ list) e zero h z =
-    eqb-false s 0 (not-true (eqb s 0) (and-left (not (eqb s 0)) (not (isIn s list) && soundList list) e)) z
-sound-no-zero (s ∷ list) e (suc k) h z =
-    sound-no-zero list (and-right (not (isIn s list)) (soundList list) (and-right (not (eqb s 0)) (not (isIn s list) && soundList list) e)) k
-    (omega arith) z
-
 pub dock-pages : (d : Dock) → Sound d → Below (2 ^ 16) (listed d) → readPages (pages (listed d) (length (listed d) / 12 + 1)) ≡ listed d
 dock-pages d sound b = read-all (listed d) b (sound-no-zero (listed d) (sound .list-sound))

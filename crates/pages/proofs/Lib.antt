@@ -1,4 +1,5 @@
 -- Laws on pages, a file for each topic.
+pub mod Gathering
 pub mod Judging
 pub mod Laws
 pub mod Making

@@ -40,7 +40,7 @@ zeros-at zero k = refl
 zeros-at (suc n) zero = refl
 zeros-at (suc n) (suc k) = zeros-at n k
 
-append-zeros-at : (l : List ℕ) (n k : ℕ) → getD (l ++ replicate n 0) k 0 ≡ getD l k 0
+pub append-zeros-at : (l : List ℕ) (n k : ℕ) → getD (l ++ replicate n 0) k 0 ≡ getD l k 0
 append-zeros-at [] n k = zeros-at n k
 append-zeros-at (a ∷ l) n zero = refl
 append-zeros-at (a ∷ l) n (suc k) = append-zeros-at l n k

@@ -5,13 +5,10 @@ use mathlib.Core.List.{List, _++_}
 use lib.Dec.{leb}
 use lib.ListN.{length, take, replicate}
 use Rattle.laws.specs.Padded.{padded}
-use Rattle.pages.specs.Lists.{soundList}
+use Rattle.pages.specs.Lists.{mostSvids, soundList}
 use Rattle.dock.specs.declared.Dock.{Dock}
 use Rattle.dock.specs.declared.Standing.{Standing}
 use Rattle.dock.specs.declared.Standing.the-variants.{Ready}
-
-abbrev pub mostSvids : ℕ
-mostSvids = 72
 
 -- the SVIDs that the dock lists
 abbrev pub listed : Dock → List ℕ

@@ -3,9 +3,9 @@ use mathlib.Core.Logic.{_⊎_}
 use mathlib.Core.Path.{_≡_}
 use mathlib.Core.Bool.{true}
 use Prim.Native.Nat.{_/_, _≤_}
-use Rattle.pages.specs.Lists.{soundList}
+use Rattle.pages.specs.Lists.{mostSvids, soundList}
 use Rattle.pages.specs.Pages.{perPage}
-use Rattle.dock.specs.Data.{mostSvids, listed, goodIdentity}
+use Rattle.dock.specs.Data.{listed, goodIdentity}
 use Rattle.dock.specs.Dock.{Decision, refuses, turns, sends}
 use Rattle.dock.specs.declared.Dock.{Dock}
 

@@ -11,6 +11,7 @@ use crate::list::objects_from;
 use crate::list::svids_from;
 use crate::replying::accepted;
 use crate::replying::refused;
+use pages::MOST_SVIDS;
 
 pub fn fresh() -> Dock
     ensures { λ r. ⌜ r ≡ freshDock ⌝ }
@@ -34,7 +35,7 @@ fn good_data(identity: &[u32], svids: &[u16]) -> bool
     if 6 < identity.len() {
         return false;
     }
-    if 72 < svids.len() {
+    if MOST_SVIDS < svids.len() {
         return false;
     }
     pages::sound(svids)

@@ -4,13 +4,10 @@ use mathlib.Core.Bool.{Bool, true, false, cond, not, _&&_}
 use mathlib.Core.List.{List, [], _∷_}
 use lib.Dec.{leb, eqb}
 use lib.ListN.{length, getD, drop}
-use Rattle.pages.specs.Lists.{isIn}
+use Rattle.pages.specs.Lists.{mostSvids, isIn}
 use Rattle.pages.specs.Pages.{perPage, readOff}
 use Rattle.pages.specs.declared.taking.Verdict.{Verdict}
 use Rattle.pages.specs.declared.taking.Verdict.the-variants.{Bad, Repeat, More, Ends}
-
-abbrev pub mostSvids : ℕ
-mostSvids = 72
 
 unfoldable pub sameList : List ℕ → List ℕ → Bool
 sameList [] [] = true

@@ -19,6 +19,8 @@ pub struct Page {
 
 const PER_PAGE: usize = 12;
 
+pub const MOST_SVIDS: usize = 72;
+
 // The value at i, or 0 past the end of the list.
 fn value_at(list: &[u16], i: usize) -> u32
     ensures { λ r. ⌜ (r ≡ getD (now (list .entry)) i 0) × (r < 65536) ⌝ }

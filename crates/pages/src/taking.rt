@@ -5,6 +5,8 @@ ghost use lib.ListN.{length, take, drop};
 ghost use Rattle.pages.specs.Pages.{readOff};
 ghost use Rattle.pages.specs.Taking.{sameList, isRepeat, isFull, isEnding, allNew, adds, nothing, endingVerdict, verdict};
 ghost use Rattle.pages.specs.Taking.{before as Taking·before};
+use crate::MOST_SVIDS;
+use crate::PER_PAGE;
 use crate::list::is_in;
 
 // A page that is bad, that repeats the last one, that adds twelve SVIDs, or that ends the list with so many.
@@ -14,10 +16,6 @@ pub enum Verdict {
     More,
     Ends(u8),
 }
-
-const PER_PAGE: usize = 12;
-
-const MOST_SVIDS: usize = 72;
 
 fn same(a: &[u16], b: &[u16]) -> bool
     ensures { λ r. ⌜ r ≡ sameList (now (a .entry)) (now (b .entry)) ⌝ }

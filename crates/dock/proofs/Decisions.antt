@@ -16,11 +16,12 @@ use Rattle.messages.specs.declared.Head.{Head}
 use Rattle.pages.specs.Pages.{remaining, page, isLast}
 use Rattle.pages.specs.Lists.{soundList}
 use Rattle.dock.specs.Data.{listed, goodIdentity, goodData, loaded, withPage, withStanding}
-use Rattle.dock.specs.Dock.{attentionCommand, refuses, turns, sends, decideLoad, reply, requestOf, asking, sending, decideRequest, decideMessage, sameRequest, isEmpty, givePage, giveIdentity, giveModes, giveOther, bare, declined, decidePolicy, decideAnswer, moved, decideSent, decideFailed}
+use Rattle.dock.specs.Dock.{refuses, turns, sends, decideLoad, reply, asking, sending, decideRequest, decideMessage, isEmpty, givePage, giveIdentity, giveModes, giveOther, bare, declined, decidePolicy, decideAnswer, moved, decideSent, decideFailed}
+use Rattle.messages.specs.Requests.{attentionCommand, requestOf, sameRequest}
 use Rattle.dock.specs.declared.Dock.{Dock}
 use Rattle.dock.specs.declared.Policy.{Policy}
 use Rattle.dock.specs.declared.Policy.the-variants.{Give}
-use Rattle.dock.specs.declared.Request.{Request}
+use Rattle.messages.specs.declared.request.Request.{Request}
 use Rattle.dock.specs.declared.Standing.{Standing}
 use Rattle.dock.specs.declared.Standing.the-variants.{Ready, Asking, Sending}
 use Rattle.dock.proofs.Standing.{the-type}
@@ -109,16 +110,6 @@ module _ (d : Dock) (o : Outcome) where
     message-request k c = by-head ∙ rw (eq-eqb _ _ k, ne-eqb _ _ c)
 
 -- policy's answer
-module _ (a b : Request) where
-  pub same-svid : (a .svid ≡ b .svid → ⊥) → false ≡ sameRequest a b
-  same-svid h = simp (ne-eqb _ _ h)
-
-  pub same-command : a .svid ≡ b .svid → (a .command ≡ b .command → ⊥) → false ≡ sameRequest a b
-  same-command s h = simp (eq-eqb _ _ s, ne-eqb _ _ h)
-
-  pub same-position : a .svid ≡ b .svid → a .command ≡ b .command → eqb (a .position) (b .position) ≡ sameRequest a b
-  same-position s c = simp (eq-eqb _ _ s, eq-eqb _ _ c)
-
 pub empty-none : (l : List ℕ) → length l ≡ 0 → isEmpty l ≡ true
 empty-none [] h = refl
 empty-none (x ∷ l) h = absurd (omega arith)

@@ -17,12 +17,13 @@ use Rattle.messages.specs.Writing.{writeRefusal}
 use Rattle.pages.specs.Pages.{remaining, isLast}
 use Rattle.pages.specs.Lists.{soundList}
 use Rattle.dock.specs.Data.{listed, goodIdentity, goodData, freshDock, loaded, withPage, withStanding}
-use Rattle.dock.specs.Dock.{identityCommand, svidsCommand, modesCommand, attentionCommand, Decision, refuses, turns, sends, refusedBy, acceptedBy, stepOf, decideLoad, requestOf, asking, sending, decideRequest, decideMessage, sameRequest, isEmpty, givePage, giveIdentity, giveModes, giveOther, bare, decidePolicy, decideAnswer, moved, decideSent, decideFailed}
+use Rattle.dock.specs.Dock.{Decision, refuses, turns, sends, refusedBy, acceptedBy, stepOf, decideLoad, asking, sending, decideRequest, decideMessage, isEmpty, givePage, giveIdentity, giveModes, giveOther, bare, decidePolicy, decideAnswer, moved, decideSent, decideFailed}
+use Rattle.messages.specs.Requests.{identityCommand, svidsCommand, modesCommand, attentionCommand, requestOf, sameRequest}
 use Rattle.dock.specs.Sound.{Sound, SoundIn}
 use Rattle.dock.specs.declared.Dock.{Dock}
 use Rattle.dock.specs.declared.Policy.{Policy}
 use Rattle.dock.specs.declared.Policy.the-variants.{Give, Nak, Busy}
-use Rattle.dock.specs.declared.Request.{Request}
+use Rattle.messages.specs.declared.request.Request.{Request}
 use Rattle.dock.specs.declared.Standing.{Standing}
 use Rattle.dock.specs.declared.Standing.the-variants.{Ready, Asking, Sending}
 

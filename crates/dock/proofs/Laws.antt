@@ -17,11 +17,12 @@ use Rattle.pages.specs.Pages.{page, pages, readPages}
 use Rattle.pages.proofs.Gathering.{sound-no-zero}
 use Rattle.pages.proofs.Laws.{page-size, page-below, read-all}
 use Rattle.dock.specs.Data.{listed}
-use Rattle.dock.specs.Dock.{svidsCommand, Decision, refuses, turns, sends, refusedBy, acceptedBy, stepOf, bufferOf, Stepped, reply, decideLoad, decideMessage, decideAnswer, decideSent, decideFailed}
+use Rattle.dock.specs.Dock.{Decision, refuses, turns, sends, refusedBy, acceptedBy, stepOf, bufferOf, Stepped, reply, decideLoad, decideMessage, decideAnswer, decideSent, decideFailed}
+use Rattle.messages.specs.Requests.{svidsCommand}
 use Rattle.dock.specs.Sound.{Sound}
 use Rattle.dock.specs.declared.Dock.{Dock}
 use Rattle.dock.specs.declared.Policy.{Policy}
-use Rattle.dock.specs.declared.Request.{Request}
+use Rattle.messages.specs.declared.request.Request.{Request}
 use Rattle.dock.specs.declared.Step.{Step}
 use Rattle.dock.proofs.Kept.{load-sound, message-sound, answer-sound, confirmed-sound, kept}
 

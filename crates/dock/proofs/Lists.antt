@@ -1,4 +1,4 @@
--- Filling an array, and parts from the front.
+-- Filling an array.
 use mathlib.Core.Path.{_≡_, ap, ap₂, sym, _∙_}
 use mathlib.Core.List.{List, [], _∷_, _++_}
 use Prim.Native.Nat.{ℕ, suc, _+_, _-_, _<_, _≤_}
@@ -29,10 +29,6 @@ pub fill-done : (l svids : List ℕ) (i : ℕ) → length l ≤ i → i ≤ leng
 fill-done l svids i m n e =
     let last : i ≡ length l = omega arith in
     e ∙ ap₂ (λ (t : List ℕ) (k : ℕ). t ++ replicate (72 - k) 0) (take-all i l m) last
-
--- a part from the front
-pub first-part : (n : ℕ) (l : List ℕ) → take (n - 0) l ≡ take n l
-first-part n l = let e : n - 0 ≡ n = omega arith in ap (λ (k : ℕ). take k l) e
 
 pub objects-six : (l : List ℕ) (p q r s t u : ℕ) → p ≡ getD l 0 0 → q ≡ getD l 1 0 → r ≡ getD l 2 0 → s ≡ getD l 3 0 →
     t ≡ getD l 4 0 → u ≡ getD l 5 0 → p ∷ q ∷ r ∷ s ∷ t ∷ u ∷ [] ≡ padded l

@@ -6,32 +6,19 @@ use mathlib.Core.List.{List, [], _∷_}
 use lib.Dec.{leb, eqb}
 use lib.ListN.{length, take}
 use Rattle.messages.specs.Layout.{req, ack, nak, busy, Message, messageBytes}
+use Rattle.messages.specs.Requests.{identityCommand, svidsCommand, modesCommand, attentionCommand, requestOf, headFor, sameRequest}
 use Rattle.messages.specs.Table.{oneToFive}
 use Rattle.messages.specs.Reading.{Outcome, accepted, refused}
 use Rattle.messages.specs.Writing.{writeRefusal, written}
-use Rattle.messages.specs.declared.Head.{Head}
+use Rattle.messages.specs.declared.request.Request.{Request}
 use Rattle.pages.specs.Pages.{page, isLast}
 use Rattle.dock.specs.Data.{listed, goodIdentity, goodData, loaded, withPage, withStanding}
 use Rattle.dock.specs.declared.Dock.{Dock}
 use Rattle.dock.specs.declared.Policy.{Policy}
 use Rattle.dock.specs.declared.Policy.the-variants.{Give, Nak, Busy}
-use Rattle.dock.specs.declared.Request.{Request}
 use Rattle.dock.specs.declared.Standing.{Standing}
 use Rattle.dock.specs.declared.Standing.the-variants.{Ready, Asking, Sending}
 use Rattle.dock.specs.declared.Step.{Step}
-
--- the commands
-abbrev pub identityCommand : ℕ
-identityCommand = 1
-
-abbrev pub svidsCommand : ℕ
-svidsCommand = 2
-
-abbrev pub modesCommand : ℕ
-modesCommand = 3
-
-abbrev pub attentionCommand : ℕ
-attentionCommand = 6
 
 -- what a call decides before the output buffer is looked at: a refusal; a new state with nothing to send; a message, and the state once it
 -- is handed over
@@ -71,14 +58,8 @@ decideLoad (Asking request) identity svids = refuses 9
 decideLoad (Sending isPage) identity svids = refuses 9
 
 -- an answer repeats the request's SVID, command and position
-abbrev pub replyHead : Request → ℕ → Head
-replyHead r kind = record { svid = r .svid; command = r .command; kind = kind; position = r .position }
-
 abbrev pub reply : Request → ℕ → List ℕ → Message
-reply r kind objects = record { head = replyHead r kind; objects = objects }
-
-abbrev pub requestOf : Head → Request
-requestOf h = record { svid = h .svid; command = h .command; position = h .position }
+reply r kind objects = record { head = headFor r kind; objects = objects }
 
 -- Identity sets the page to 0 on receipt; each request of 1 to 5 asks policy, and replaces an old one as if it had failed
 unfoldable pub asking : Request → Dock → Dock
@@ -96,9 +77,6 @@ unfoldable pub decideMessage : Dock → Outcome → Decision
 decideMessage d (refused number) = refuses number
 decideMessage d (accepted m) =
     cond (eqb (m .head .kind) req && not (eqb (m .head .command) attentionCommand)) (decideRequest d (requestOf (m .head))) (refuses 6)
-
-abbrev pub sameRequest : Request → Request → Bool
-sameRequest a b = eqb (a .svid) (b .svid) && (eqb (a .command) (b .command) && eqb (a .position) (b .position))
 
 abbrev pub isEmpty : List ℕ → Bool
 isEmpty [] = true

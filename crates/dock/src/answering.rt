@@ -1,34 +1,23 @@
 // Policy's answer.
 ghost use mathlib.Core.Path.{_≡_};
-ghost use Rattle.dock.specs.Dock.{sameRequest, giveIdentity, givePage, giveModes, giveOther, declined, decidePolicy, decideAnswer, Stepped};
+ghost use Rattle.dock.specs.Dock.{giveIdentity, givePage, giveModes, giveOther, declined, decidePolicy, decideAnswer, Stepped};
 use crate::Dock;
-use crate::IDENTITY;
-use crate::MODES;
 use crate::Policy;
-use crate::Request;
-use crate::SVIDS;
 use crate::Standing;
 use crate::Step;
-use crate::list::first_objects;
-use crate::list::first_svids;
 use crate::replying::refused;
 use crate::replying::send;
 use crate::replying::send_bare;
 use messages::ACK;
 use messages::BUSY;
+use messages::IDENTITY;
+use messages::MODES;
 use messages::NAK;
-
-fn same_request(a: Request, b: Request) -> bool
-    ensures { λ r. ⌜ r ≡ sameRequest a b ⌝ }
-{
-    if a.svid != b.svid {
-        return false;
-    }
-    if a.command != b.command {
-        return false;
-    }
-    a.position == b.position
-}
+use messages::Request;
+use messages::SVIDS;
+use messages::first_objects;
+use messages::same_request;
+use pages::first_svids;
 
 fn give_identity(dock: Dock, request: Request, out: &mut [u8]) -> Step
     ensures { λ r. ⌜ Stepped dock (giveIdentity dock request) (now (out .entry)) r (now (out .exit)) ⌝ }

@@ -4,10 +4,10 @@ ghost use Rattle.dock.specs.Dock.{moved, decideSent, decideFailed, stepO
 use crate::Dock;
 use crate::Standing;
 use crate::Step;
-use crate::list::first_svids;
 use crate::replying::accepted;
 use crate::replying::refused;
 use crate::replying::standing_at;
+use pages::first_svids;
 
 // A page that does not end the list moves on to the next; the last stays until the next Identity.
 fn move_on(paged: bool, dock: Dock) -> Dock

@@ -11,14 +11,8 @@ pub use confirming::failed;
 pub use confirming::sent;
 pub use loading::fresh;
 pub use loading::load;
+use messages::Request;
 pub use receiving::message;
-
-// What a request names, and policy's answer repeats.
-pub struct Request {
-    pub svid: u16,
-    pub command: u8,
-    pub position: u8,
-}
 
 // Where the dock stands: asking policy for one request, or sending an answer (true: a page of its list).
 pub enum Standing {
@@ -49,13 +43,3 @@ pub struct Step {
     pub length: u8,
     pub dock: Dock,
 }
-
-pub const IDENTITY: u8 = 1;
-
-pub const SVIDS: u8 = 2;
-
-pub const MODES: u8 = 3;
-
-pub const EXIT: u8 = 5;
-
-pub const ATTENTION: u8 = 6;

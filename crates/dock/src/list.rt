@@ -38,23 +38,3 @@ pub(crate) fn objects_from(objects: &[u32]) -> [u32; 6]
         object_or_zero(objects, 5),
     ]
 }
-
-// The first n SVIDs, or all where there are fewer.
-pub(crate) fn first_svids(list: &[u16], n: usize) -> &[u16]
-    ensures { λ r. ⌜ now r ≡ take n (now (list .entry)) ⌝ }
-{
-    if n <= list.len() {
-        return &list[0..n];
-    }
-    list
-}
-
-// The first n objects, or all where there are fewer.
-pub(crate) fn first_objects(objects: &[u32], n: usize) -> &[u32]
-    ensures { λ r. ⌜ now r ≡ take n (now (objects .entry)) ⌝ }
-{
-    if n <= objects.len() {
-        return &objects[0..n];
-    }
-    objects
-}

@@ -1,32 +1,22 @@
 // A message that arrives.
 ghost use mathlib.Core.Path.{_≡_};
 ghost use Rattle.messages.specs.Reading.{readOutcome};
-ghost use Rattle.dock.specs.Dock.{asking, decideRequest, decideMessage, requestOf, Stepped};
-use crate::ATTENTION;
+ghost use Rattle.dock.specs.Dock.{asking, decideRequest, decideMessage, Stepped};
 use crate::Dock;
-use crate::EXIT;
-use crate::IDENTITY;
-use crate::Request;
 use crate::Standing;
 use crate::Step;
 use crate::replying::accepted;
 use crate::replying::refused;
 use crate::replying::send_bare;
 use crate::replying::standing_at;
+use messages::ATTENTION;
 use messages::Answer;
-use messages::Head;
+use messages::EXIT;
+use messages::IDENTITY;
 use messages::NAK;
 use messages::REQ;
-
-fn request_of(head: Head) -> Request
-    ensures { λ r. ⌜ r ≡ requestOf head ⌝ }
-{
-    Request {
-        svid: head.svid,
-        command: head.command,
-        position: head.position,
-    }
-}
+use messages::Request;
+use messages::request_of;
 
 // Identity sets the page to 0 on receipt.
 fn asking_for(request: Request, dock: Dock) -> Dock

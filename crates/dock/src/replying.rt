@@ -3,12 +3,12 @@ ghost use mathlib.Core.Path.{_≡_};
 ghost use mathlib.Core.Bool.{false};
 ghost use mathlib.Core.List.{[]};
 ghost use Rattle.dock.specs.Data.{withStanding};
-ghost use Rattle.dock.specs.Dock.{sends, refusedBy, acceptedBy, replyHead, reply, sending, Stepped};
+ghost use Rattle.dock.specs.Dock.{sends, refusedBy, acceptedBy, reply, sending, Stepped};
 use crate::Dock;
-use crate::Request;
 use crate::Standing;
 use crate::Step;
-use messages::Head;
+use messages::Request;
+use messages::head_for;
 
 // Nothing is sent, and the state stays.
 pub(crate) fn refused(number: u8, dock: Dock) -> Step
@@ -37,17 +37,6 @@ pub(crate) fn standing_at(standing: Standing, dock: Dock) -> Dock
     Dock { standing, ..dock }
 }
 
-fn reply_head(request: Request, kind: u8) -> Head
-    ensures { λ r. ⌜ r ≡ replyHead request kind ⌝ }
-{
-    Head {
-        svid: request.svid,
-        command: request.command,
-        kind,
-        position: request.position,
-    }
-}
-
 // Hands an answer to a request over; a buffer that is too short is refused, and the dock stays as it was.
 pub(crate) fn send(
     dock: Dock,
@@ -59,7 +48,7 @@ pub(crate) fn send(
 ) -> Step
     ensures { λ r. ⌜ Stepped dock (sends (reply request kind (now (objects .entry))) (sending page dock)) (now (out .entry)) r (now (out .exit)) ⌝ }
 {
-    let number = messages::write(reply_head(request, kind), objects, out);
+    let number = messages::write(head_for(request, kind), objects, out);
     if number != 0 {
         return refused(number, dock);
     }

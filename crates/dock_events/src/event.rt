@@ -1,8 +1,8 @@
 // The events that reach the dock: the body of each kind, and the call that takes it.
 use dock::Dock;
 use dock::Policy;
-use dock::Request;
 use dock::Step;
+use messages::Request;
 use text::input::GREATEST;
 use text::input::fill;
 use text::input::fill_halves;

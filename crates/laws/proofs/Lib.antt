@@ -2,5 +2,6 @@
 pub mod Fields
 pub mod Lines
 pub mod Padded
+pub mod Parts
 pub mod Rows
 pub mod Stores

@@ -3,7 +3,7 @@ use mathlib.Core.Logic.{_↔_}
 use mathlib.Core.Path.{_≡_, refl, ap, sym, _∙_}
 use mathlib.Core.Bool.{Bool, true, false, cond, not, false≢true}
 use mathlib.Core.List.{List, [], _++_, append-nil}
-use Prim.Native.Nat.{ℕ, _+_, _/_, _<_}
+use Prim.Native.Nat.{ℕ, _+_, _/_, _<_, _≤_}
 use native.Mathlib.Omega.{arith}
 use lib.Dec.{ltb}
 use lib.ListN.{length, getD, take, drop, length-set}
@@ -22,7 +22,7 @@ use Rattle.messages.specs.declared.Head.{Head}
 use Rattle.messages.specs.declared.Reading.{Reading}
 use Rattle.messages.proofs.Refusals.{read-refused, outcome-refused}
 use Rattle.messages.proofs.RoundTrip.{read-bytes, bytes-read, accepted-shape, accepted-fits, message-bytes}
-use Rattle.messages.proofs.Rule.{shape-allowed, pair-has}
+use Rattle.messages.proofs.Rule.{shape-allowed, shape-count, pair-has}
 use Rattle.messages.proofs.Stores.{write-whole}
 
 -- writing is refused 5 exactly for a wrong shape, 11 exactly for a short buffer under a good one, and by no other number
@@ -78,6 +78,11 @@ write-read b below m e out room =
 -- what was read has a good shape and fits the layout's widths, and what is written are bytes
 pub read-shape : (b : List ℕ) (m : Message) → readOutcome b ≡ accepted m → wellShaped m ≡ true
 read-shape b m e = accepted-shape b m e
+
+-- at most six objects stand behind the header
+pub read-count : (b : List ℕ) (m : Message) → readOutcome b ≡ accepted m → length (m .objects) ≤ 6
+unfolding wellShaped
+read-count b m e = omega (arith, shape-count (m .head) (length (m .objects) + 1) (accepted-shape b m e) .1)
 
 pub read-fits : (b : List ℕ) (m : Message) → Below 256 b → readOutcome b ≡ accepted m → Representable m
 read-fits b m below e = accepted-fits b m below e

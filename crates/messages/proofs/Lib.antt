@@ -3,6 +3,7 @@ pub mod Header
 pub mod Laws
 pub mod Objects
 pub mod Refusals
+pub mod Requests
 pub mod RoundTrip
 pub mod Rows
 pub mod Rule

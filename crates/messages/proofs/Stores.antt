@@ -16,11 +16,15 @@ use Rattle.messages.specs.Writing.{wellShaped, writeRefusal, written, Wr
 use Rattle.messages.proofs.Objects.{length-bytes}
 use Rattle.messages.proofs.Rule.{shape-count}
 
-pub store-object : (out : List ℕ) (at w : ℕ) →
-    set (set (set (set out at (w % 256)) (at + 1) (w / 256 % 256)) (at + 2) (w / 65536 % 256)) (at + 3) (w / 16777216 % 256)
+pub object-bytes : (w : ℕ) → w % 256 ∷ w / 256 % 256 ∷ w / 65536 % 256 ∷ w / 16777216 % 256 ∷ [] ≡ bytesOfObject w
+unfolding bytesOfObject
+object-bytes w = rw div-one
+
+pub store-object : (out : List ℕ) (at : ℕ) (bytes : List ℕ) (w : ℕ) → bytes ≡ bytesOfObject w →
+    set (set (set (set out at (getD bytes 0 0)) (at + 1) (getD bytes 1 0)) (at + 2) (getD bytes 2 0)) (at + 3) (getD bytes 3 0)
     ≡ sets out at (bytesOfObject w)
 unfolding bytesOfObject
-store-object out at w = rw (add-one, add-two, add-three, div-one)
+store-object out at bytes w e = rw (e, add-one, add-two, add-three)
 
 bytes-append : (vs ws : List ℕ) → bytesOf (vs ++ ws) ≡ bytesOf vs ++ bytesOf ws
 unfolding bytesOf

@@ -1,11 +1,18 @@
 // Structured VDMs of USB Power Delivery, read from bytes and written as bytes: document 01, "Message layout".
 mod from_bytes;
 mod object;
+mod request;
 mod table;
 mod to_bytes;
 
 pub use from_bytes::number;
 pub use from_bytes::read;
+pub use object::bytes_of;
+pub use object::first_objects;
+pub use request::Request;
+pub use request::head_for;
+pub use request::request_of;
+pub use request::same_request;
 pub use to_bytes::write;
 
 // What a VDM header says, its version left out. 01's types are numbers here: REQ, ACK, NAK, BUSY.
@@ -25,6 +32,18 @@ pub const NAK: u8 = 2;
 pub const BUSY: u8 = 3;
 
 pub const PD_SID: u16 = 0xFF00;
+
+pub const IDENTITY: u8 = 1;
+
+pub const SVIDS: u8 = 2;
+
+pub const MODES: u8 = 3;
+
+pub const ENTER: u8 = 4;
+
+pub const EXIT: u8 = 5;
+
+pub const ATTENTION: u8 = 6;
 
 // A message's head and the number of objects after the header, or a refusal number.
 pub enum Answer {

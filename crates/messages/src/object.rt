@@ -1,8 +1,8 @@
 // An object among bytes: 32 bits, least significant byte first.
 ghost use mathlib.Core.Path.{_≡_};
 ghost use Prim.Native.Nat.{_<_};
-ghost use lib.ListN.{getD};
-ghost use Rattle.messages.specs.Layout.{objectOf, objectsOf};
+ghost use lib.ListN.{getD, take};
+ghost use Rattle.messages.specs.Layout.{objectOf, objectsOf, bytesOfObject};
 
 fn joined(a: u8, b: u8, c: u8, d: u8) -> u32
     ensures { λ r. ⌜ r ≡ objectOf a b c d ⌝ }
@@ -20,4 +20,25 @@ pub(crate) fn object_at(bytes: &[u8], i: usize) -> u32
         return joined(bytes[at], bytes[at + 1], bytes[at + 2], bytes[at + 3]);
     }
     0
+}
+
+pub fn bytes_of(object: u32) -> [u8; 4]
+    ensures { λ r. ⌜ r ≡ bytesOfObject object ⌝ }
+{
+    [
+        (object % 256) as u8,
+        (object / 256 % 256) as u8,
+        (object / 65536 % 256) as u8,
+        (object / 16777216 % 256) as u8,
+    ]
+}
+
+// The first n objects, or all where there are fewer.
+pub fn first_objects(objects: &[u32], n: usize) -> &[u32]
+    ensures { λ r. ⌜ now r ≡ take n (now (objects .entry)) ⌝ }
+{
+    if n <= objects.len() {
+        return &objects[0..n];
+    }
+    objects
 }

@@ -7,6 +7,7 @@ ghost use lib.Seq.{sets};
 ghost use Rattle.messages.specs.Layout.{bytesOfObject, bytesOf, headerOf, Message};
 ghost use Rattle.messages.specs.Writing.{Written};
 use crate::Head;
+use crate::object::bytes_of;
 use crate::table::shape;
 
 // The first object: structured, major 1, minor 0, and what the head says.
@@ -25,10 +26,11 @@ fn put_object(out: &mut [u8], at: usize, object: u32)
     requires { ⌜ at + 4 ≤ length (now out) ⌝ }
     ensures { λ _. ⌜ now (out .exit) ≡ sets (now (out .entry)) at (bytesOfObject object) ⌝ }
 {
-    out[at] = (object % 256) as u8;
-    out[at + 1] = (object / 256 % 256) as u8;
-    out[at + 2] = (object / 65536 % 256) as u8;
-    out[at + 3] = (object / 16777216 % 256) as u8;
+    let bytes = bytes_of(object);
+    out[at] = bytes[0];
+    out[at + 1] = bytes[1];
+    out[at + 2] = bytes[2];
+    out[at + 3] = bytes[3];
 }
 
 // The objects behind the header.

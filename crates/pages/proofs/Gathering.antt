@@ -13,7 +13,6 @@ use Rattle.laws.proofs.Lines.{and-left, and-right}
 use Rattle.pages.specs.Lists.{isIn, soundList}
 use Rattle.pages.specs.Pages.{remaining, halves, page, isLast, ending, readOff, NoZero}
 use Rattle.pages.specs.Taking.{sameList, isRepeat, before, isFull, allNew, adds, nothing, verdict}
-use Rattle.pages.specs.declared.taking.Verdict.{Verdict}
 use Rattle.pages.specs.declared.taking.Verdict.the-variants.{Repeat, More, Ends}
 use Rattle.pages.proofs.Judging.{same-length, verdict-repeat, verdict-more, verdict-ending, repeat-same, full-whole, adds-new, ending-last, ending-adds}
 use Rattle.pages.proofs.Making.{append-zeros-at}

@@ -11,7 +11,6 @@ use Rattle.laws.proofs.Lines.{and-left}
 use Rattle.pages.specs.Lists.{isIn}
 use Rattle.pages.specs.Pages.{readOff}
 use Rattle.pages.specs.Taking.{sameList, isRepeat, before, isFull, isEnding, allNew, adds, nothing, endingVerdict, verdict}
-use Rattle.pages.specs.declared.taking.Verdict.{Verdict}
 use Rattle.pages.specs.declared.taking.Verdict.the-variants.{Bad, Repeat, More, Ends}
 use Rattle.pages.proofs.Scanning.{next}
 

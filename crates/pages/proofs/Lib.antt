@@ -4,3 +4,4 @@ pub mod Judging
 pub mod Laws
 pub mod Making
 pub mod Scanning
+pub mod Sizes

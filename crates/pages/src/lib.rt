@@ -2,6 +2,7 @@
 mod list;
 mod taking;
 
+pub use list::first_svids;
 pub use list::is_in;
 pub use list::sound;
 pub use taking::Verdict;

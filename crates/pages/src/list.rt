@@ -1,5 +1,6 @@
 // Scanning a list of SVIDs.
 ghost use mathlib.Core.Path.{_≡_};
+ghost use lib.ListN.{take};
 ghost use Rattle.pages.specs.Lists.{isIn, soundList};
 
 // Does the list have the SVID?
@@ -32,4 +33,14 @@ pub fn sound(list: &[u16]) -> bool
         }
     }
     true
+}
+
+// The first n SVIDs, or all where there are fewer.
+pub fn first_svids(list: &[u16], n: usize) -> &[u16]
+    ensures { λ r. ⌜ now r ≡ take n (now (list .entry)) ⌝ }
+{
+    if n <= list.len() {
+        return &list[0..n];
+    }
+    list
 }

@@ -1,14 +1,20 @@
 //! The second implementation, written from document 01 alone: one module a topic.
 
+pub mod call;
 pub mod catalogue;
+pub mod digest;
 pub mod dock;
 pub mod dock_events;
+mod fields;
 pub mod generating;
 mod header;
 pub mod laptop;
+pub mod laptop_events;
+pub mod link_events;
 pub mod messages;
 pub mod pages;
 pub mod random;
+pub mod reached;
 pub mod refusals;
 pub mod stream;
 pub mod vectors;

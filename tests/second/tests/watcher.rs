@@ -1,5 +1,6 @@
 //! The watcher program and its generator, held against lines written by hand.
 
+use second::call::Call;
 use second::laptop::{Candidate, Laptop};
 use second::watcher::answers::print_answers;
 use second::watcher::generator::generate;
@@ -236,13 +237,13 @@ fn reachable() -> BTreeSet<(&'static str, u8, u8)> {
 fn sort(event: &Event) -> &'static str {
     match event {
         Event::Message { .. } => "message",
-        Event::Next | Event::StartOver => "asking",
-        Event::Drop => "drop",
-        Event::ResponseTimer => "response",
-        Event::EntryTimer => "entry",
-        Event::ExitTimer => "exit",
-        Event::ProtocolError => "error",
-        Event::Enter { .. } | Event::Exit { .. } => "mode",
+        Event::Call(Call::Next) | Event::Call(Call::StartOver) => "asking",
+        Event::Call(Call::Drop) => "drop",
+        Event::Call(Call::ResponseTimer) => "response",
+        Event::Call(Call::EntryTimer) => "entry",
+        Event::Call(Call::ExitTimer) => "exit",
+        Event::Call(Call::ProtocolError) => "error",
+        Event::Call(Call::Enter { .. }) | Event::Call(Call::Exit { .. }) => "mode",
     }
 }
 

@@ -12,6 +12,7 @@ mod two_hundred;
 mod unheld;
 
 use super::{Event, Outcome, Run};
+use crate::call::Call;
 use crate::header::{Header, LAST_MINOR, LAST_READ_MAJOR};
 use crate::laptop::Candidate;
 use crate::messages::{
@@ -60,7 +61,8 @@ pub fn generate(seed: u64) -> Vec<Event> {
 }
 
 impl Generator {
-    fn push(&mut self, event: Event) -> Outcome {
+    fn push(&mut self, event: impl Into<Event>) -> Outcome {
+        let event = event.into();
         let outcome = self.run.take(&event);
         if let Some(request) = self.run.laptop().awaited() {
             self.asked = request;
@@ -70,7 +72,7 @@ impl Generator {
     }
 
     fn next(&mut self) -> Outcome {
-        self.push(Event::Next)
+        self.push(Call::Next)
     }
 
     fn message(&mut self, header: Header, after: &[u32]) -> Outcome {
@@ -123,17 +125,17 @@ impl Generator {
     /// Goes back to nothing awaited, no mode entered and no candidate.
     fn settle(&mut self) {
         if self.run.laptop().awaited().is_some() {
-            self.push(Event::ProtocolError);
+            self.push(Call::ProtocolError);
         }
         for svid in self.held_svids() {
             if self.run.laptop().entered_count(svid) > 0 {
                 let position = LAST_POSITION;
-                self.push(Event::Exit { svid, position });
+                self.push(Call::Exit { svid, position });
                 self.acknowledge();
             }
         }
         if *self.run.laptop().candidate() != Candidate::None {
-            self.push(Event::Drop);
+            self.push(Call::Drop);
         }
     }
 

@@ -56,21 +56,12 @@ impl Run {
             held: &mut self.held,
             candidate: &mut self.candidate,
         };
-        let (laptop, buffer) = (&mut self.laptop, &mut self.buffer);
         match event {
             Event::Message { objects } => {
                 let bytes: Vec<u8> = objects.iter().flat_map(|word| word.to_le_bytes()).collect();
-                laptop.message(&bytes, runs)
+                self.laptop.message(&bytes, runs)
             }
-            Event::Next => laptop.next(runs, buffer),
-            Event::StartOver => laptop.start_over(runs, buffer),
-            Event::Drop => laptop.drop(runs),
-            Event::ResponseTimer => laptop.response_timer(),
-            Event::EntryTimer => laptop.entry_timer(),
-            Event::ExitTimer => laptop.exit_timer(),
-            Event::ProtocolError => laptop.protocol_error(),
-            Event::Enter { svid, position } => laptop.enter(*svid, *position, runs, buffer),
-            Event::Exit { svid, position } => laptop.exit(*svid, *position, runs, buffer),
+            Event::Call(call) => call.make(&mut self.laptop, runs, &mut self.buffer),
         }
     }
 }

@@ -7,8 +7,8 @@ use borrow.Author.Needs.{needs}
 use Rattle.dock.proofs.replying.send.Statement.{statement}
 use Rattle.dock.proofs.replying.send.Tie as tie
 
-reply-head-requires : tie.Need-reply-head-requires
-reply-head-requires c κs = search needs
+head-for-requires : tie.Need-head-for-requires
+head-for-requires c κs = search needs
 
 write-requires : tie.Need-write-requires
 write-requires c κs = search needs
@@ -22,7 +22,7 @@ same-length c = search needs
 returns : tie.Need-returns
 returns c = let a = c .before .before .before .before .before .before .before .before .before .args in
     let o = a .objects .now in
-    let w = written-head _ _ o (a .out .now) _ _ (c .before .before .before .before .before .before .reply-head .ensures) (c .before .before .before .before .write .ensures) in
+    let w = written-head _ _ o (a .out .now) _ _ (c .before .before .before .before .before .before .head-for .ensures) (c .before .before .before .before .write .ensures) in
     send-refused (a .dock) (sending (a .page) (a .dock)) (reply (a .request) (a .kind) o) (a .out .now) _ _ w _ (c .before .if1 .taken) (c .refused .ensures)
 
 mul-length : tie.Need-mul-length
@@ -34,7 +34,7 @@ add-length c = search needs
 cast-length : tie.Need-cast-length
 cast-length c = let a = c .before .before .before .before .before .before .before .before .args in
     let o = a .objects .now in
-    let w = written-head _ _ o (a .out .now) _ _ (c .before .before .before .before .before .reply-head .ensures) (c .before .before .before .write .ensures) in
+    let w = written-head _ _ o (a .out .now) _ _ (c .before .before .before .before .before .head-for .ensures) (c .before .before .before .write .ensures) in
     omega (arith, send-few (a .dock) (a .dock) (reply (a .request) (a .kind) o) (a .out .now) _ _ w (c .if1 .left))
 
 standing-at-requires : tie.Need-standing-at-requires
@@ -50,7 +50,7 @@ returns-2 : tie.Need-returns-2
 unfolding sending
 returns-2 c = let a = c .before .before .before .before .before .before .before .before .before .before .args in
     let o = a .objects .now in
-    let w = written-head _ _ o (a .out .now) _ _ (c .before .before .before .before .before .before .before .reply-head .ensures) (c .before .before .before .before .before .write .ensures) in
+    let w = written-head _ _ o (a .out .now) _ _ (c .before .before .before .before .before .before .before .head-for .ensures) (c .before .before .before .before .before .write .ensures) in
     send-whole (a .dock) (sending (a .page) (a .dock)) (reply (a .request) (a .kind) o) (a .out .now) _ _ w _ _ (c .before .before .if1 .left)
     (c .accepted .ensures) (c .before .standing-at .ensures)
 
@@ -58,7 +58,7 @@ pub send-spec : {M : Type 1} → statement M
 send-spec =
     tie.close
     (tie.spec
-    reply-head-requires
+    head-for-requires
     write-requires
     refused-requires
     same-length

@@ -6,14 +6,17 @@ use borrow.Author.Needs.{needs}
 use Rattle.messages.proofs.to_bytes.put_object.Statement.{statement}
 use Rattle.messages.proofs.to_bytes.put_object.Tie as tie
 
-cast-out : tie.Need-cast-out
-cast-out c = search needs
+bytes-of-requires : tie.Need-bytes-of-requires
+bytes-of-requires c κs = search needs
+
+array-read-out : tie.Need-array-read-out
+array-read-out c = search needs
 
 slice-write-out : tie.Need-slice-write-out
 slice-write-out c = search needs
 
-cast-out-2 : tie.Need-cast-out-2
-cast-out-2 c = search needs
+array-read-out-2 : tie.Need-array-read-out-2
+array-read-out-2 c = search needs
 
 add-out : tie.Need-add-out
 add-out c = search needs
@@ -21,8 +24,8 @@ add-out c = search needs
 slice-write-out-2 : tie.Need-slice-write-out-2
 slice-write-out-2 c = simp length-set (omega arith)
 
-cast-out-3 : tie.Need-cast-out-3
-cast-out-3 c = search needs
+array-read-out-3 : tie.Need-array-read-out-3
+array-read-out-3 c = search needs
 
 add-out-2 : tie.Need-add-out-2
 add-out-2 c = search needs
@@ -30,8 +33,8 @@ add-out-2 c = search needs
 slice-write-out-3 : tie.Need-slice-write-out-3
 slice-write-out-3 c = simp length-set (omega arith)
 
-cast-out-4 : tie.Need-cast-out-4
-cast-out-4 c = search needs
+array-read-out-4 : tie.Need-array-read-out-4
+array-read-out-4 c = search needs
 
 add-out-3 : tie.Need-add-out-3
 add-out-3 c = search needs
@@ -43,21 +46,22 @@ same-length : tie.Need-same-length
 same-length c = search needs
 
 returns : tie.Need-returns
-returns c = store-object (c .args .out .now) (c .args .at) (c .args .object)
+returns c = store-object (c .before .before .args .out .now) (c .before .before .args .at) (c .bytes-of .result) (c .before .before .args .object) (c .bytes-of .ensures)
 
 pub put-object-spec : {M : Type 1} → statement M
 put-object-spec =
     tie.close
     (tie.spec
-    cast-out
+    bytes-of-requires
+    array-read-out
     slice-write-out
-    cast-out-2
+    array-read-out-2
     add-out
     slice-write-out-2
-    cast-out-3
+    array-read-out-3
     add-out-2
     slice-write-out-3
-    cast-out-4
+    array-read-out-4
     add-out-3
     slice-write-out-4
     same-length

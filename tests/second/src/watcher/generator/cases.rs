@@ -1,6 +1,7 @@
 //! The cases of 01 that are the laptop's: case L, and cases 9 to 12.
 
-use super::{Event, Generator};
+use super::Generator;
+use crate::call::Call;
 use crate::messages::{ACK, NAK};
 use crate::pages::page;
 
@@ -11,7 +12,7 @@ impl Generator {
         self.page(&[0xFF01_0000]);
         self.next();
         self.answer(ACK, &[0x0000_0405]);
-        self.push(Event::Enter {
+        self.push(Call::Enter {
             svid: 0xFF01,
             position: 1,
         });

@@ -2,6 +2,7 @@
 
 use super::situation::TIMERS;
 use super::{Event, Generator, ANSWERS};
+use crate::call::Call;
 use crate::laptop::Candidate;
 use crate::messages::{ACK, LAST_POSITION, MOST_OBJECTS, SVIDS};
 use crate::pages::{page, PAGE_SVIDS};
@@ -69,8 +70,8 @@ impl Generator {
     }
 
     fn drawn_timer(&mut self) {
-        let timer = self.random.below(TIMERS.len());
-        self.push(TIMERS[timer].clone());
+        let timer = self.random.one_of(&TIMERS);
+        self.push(timer);
     }
 
     /// Enter or exit, mostly of a held SVID.
@@ -82,16 +83,16 @@ impl Generator {
         let svid = self.random.one_of(&svids);
         let position = self.random.byte() & LAST_POSITION;
         if self.random.below(2) == 0 {
-            self.push(Event::Enter { svid, position });
+            self.push(Call::Enter { svid, position });
         } else {
-            self.push(Event::Exit { svid, position });
+            self.push(Call::Exit { svid, position });
         }
     }
 
     fn drawn_asking(&mut self) {
         match self.random.below(3) {
-            0 => self.push(Event::StartOver),
-            1 => self.push(Event::Drop),
+            0 => self.push(Call::StartOver),
+            1 => self.push(Call::Drop),
             _ => self.next(),
         };
     }

@@ -1,6 +1,7 @@
 //! Whole gatherings of 0 to 72 SVIDs, some pages of which come twice, after BUSY or after a timer.
 
-use super::{Event, Generator};
+use super::Generator;
+use crate::call::Call;
 use crate::messages::{ACK, BUSY, MOST_AFTER_HEADER, NAK};
 use crate::pages::{page, MOST_SVIDS, PAGE_SVIDS};
 
@@ -46,8 +47,8 @@ impl Generator {
                 self.answer_well(BUSY);
                 return;
             }
-            1 => Event::ResponseTimer,
-            2 => Event::ProtocolError,
+            1 => Call::ResponseTimer,
+            2 => Call::ProtocolError,
             _ => return,
         };
         self.next();

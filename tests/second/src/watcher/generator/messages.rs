@@ -63,7 +63,7 @@ impl Generator {
             for timer in TIMERS {
                 for kind in ANSWERS {
                     self.set_up(situation);
-                    self.push(timer.clone());
+                    self.push(timer);
                     self.answer_well(kind);
                     self.next();
                     self.answer_well(kind);

@@ -1,6 +1,7 @@
 //! Enter and exit at every position of SVIDs with one to six modes, with every end of the wait.
 
-use super::{Event, Generator, ANSWERS};
+use super::{Generator, ANSWERS};
+use crate::call::Call;
 use crate::messages::{ACK, LAST_MODE_POSITION, LAST_POSITION};
 
 const MODE_COUNTS: [usize; 6] = [1, 2, 3, 4, 5, 6];
@@ -14,17 +15,17 @@ impl Generator {
         self.hold(&modes);
         for &svid in &svids {
             for position in POSITIONS {
-                self.every_end_of(&Event::Enter { svid, position });
+                self.every_end_of(Call::Enter { svid, position });
             }
             self.next();
         }
-        self.push(Event::StartOver);
+        self.push(Call::StartOver);
         for &svid in &svids {
             for position in POSITIONS
                 .into_iter()
                 .filter(|&other| other != LAST_POSITION)
             {
-                self.every_end_of(&Event::Exit { svid, position });
+                self.every_end_of(Call::Exit { svid, position });
             }
         }
         for &svid in &svids {
@@ -35,29 +36,29 @@ impl Generator {
     /// Enters every mode and leaves them all with position 7.
     fn all_at_once(&mut self, svid: u16) {
         for position in 1..=LAST_MODE_POSITION {
-            if self.push(Event::Enter { svid, position }).sent.is_some() {
+            if self.push(Call::Enter { svid, position }).sent.is_some() {
                 self.acknowledge();
             }
         }
         let position = LAST_POSITION;
-        self.every_end_of(&Event::Exit { svid, position });
+        self.every_end_of(Call::Exit { svid, position });
     }
 
     /// The call with every end of its wait, last an ACK, after which it comes once more.
-    fn every_end_of(&mut self, call: &Event) {
-        let ends_without_mark = [Event::EntryTimer, Event::ExitTimer, Event::ProtocolError];
-        if self.push(call.clone()).sent.is_none() {
+    fn every_end_of(&mut self, call: Call) {
+        let ends_without_mark = [Call::EntryTimer, Call::ExitTimer, Call::ProtocolError];
+        if self.push(call).sent.is_none() {
             return;
         }
         for kind in ANSWERS.into_iter().filter(|&kind| kind != ACK) {
             self.answer_well(kind);
-            self.push(call.clone());
+            self.push(call);
         }
         for end in ends_without_mark {
             self.push(end);
-            self.push(call.clone());
+            self.push(call);
         }
         self.acknowledge();
-        self.push(call.clone());
+        self.push(call);
     }
 }

@@ -1,6 +1,7 @@
 //! The situations of a laptop end, by candidate and wait, and the owner's calls and timers in each.
 
 use super::{Event, Generator};
+use crate::call::Call;
 use crate::messages::LAST_POSITION;
 use crate::pages::PAGE_SVIDS;
 
@@ -46,13 +47,13 @@ pub const WAITING: [Situation; 8] = [
     Situation::AwaitsExitOfAll,
 ];
 
-pub const TIMERS: [Event; 4] = [
-    Event::ResponseTimer,
-    Event::EntryTimer,
-    Event::ExitTimer,
-    Event::ProtocolError,
+pub const TIMERS: [Call; 4] = [
+    Call::ResponseTimer,
+    Call::EntryTimer,
+    Call::ExitTimer,
+    Call::ProtocolError,
 ];
-const ASKING: [Event; 3] = [Event::Next, Event::StartOver, Event::Drop];
+const ASKING: [Call; 3] = [Call::Next, Call::StartOver, Call::Drop];
 const NAMED_MODES: [(u16, u8); 8] = [
     (FIRST, 1),
     (FIRST, 2),
@@ -69,11 +70,12 @@ impl Generator {
     pub(super) fn calls_everywhere(&mut self) {
         let modes = NAMED_MODES.iter().flat_map(|&(svid, position)| {
             [
-                Event::Enter { svid, position },
-                Event::Exit { svid, position },
+                Call::Enter { svid, position },
+                Call::Exit { svid, position },
             ]
         });
-        let calls: Vec<Event> = ASKING.into_iter().chain(TIMERS).chain(modes).collect();
+        let calls = ASKING.into_iter().chain(TIMERS).chain(modes);
+        let calls: Vec<Event> = calls.map(Event::from).collect();
         for situation in IDLE.into_iter().chain(WAITING) {
             self.everything_in(situation, &calls);
         }
@@ -132,7 +134,7 @@ impl Generator {
         if self.held_svids() != LISTED {
             self.hold(&[(FIRST, 2), (SECOND, 1)]);
         }
-        self.push(Event::Enter {
+        self.push(Call::Enter {
             svid: FIRST,
             position: 1,
         });
@@ -141,6 +143,6 @@ impl Generator {
     fn await_exit(&mut self, position: u8) {
         self.set_up(Situation::Entered);
         let svid = FIRST;
-        self.push(Event::Exit { svid, position });
+        self.push(Call::Exit { svid, position });
     }
 }

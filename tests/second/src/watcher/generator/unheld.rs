@@ -1,6 +1,7 @@
 //! Enter and exit before there is a held catalogue.
 
-use super::{Event, Generator};
+use super::Generator;
+use crate::call::Call;
 
 const POSITIONS: [u8; 5] = [0, 1, 6, 7, 255];
 
@@ -19,8 +20,8 @@ impl Generator {
     fn enter_and_exit(&mut self) {
         for svid in [0, 1] {
             for position in POSITIONS {
-                self.push(Event::Enter { svid, position });
-                self.push(Event::Exit { svid, position });
+                self.push(Call::Enter { svid, position });
+                self.push(Call::Exit { svid, position });
             }
         }
     }

@@ -1,0 +1,2 @@
+-- Document 01, "Catalogue bytes".
+pub mod Bytes

@@ -1,0 +1,28 @@
+use Rattle.laptop.specs.Calls.{turnedTo}
+use Rattle.laptop.specs.declared.Notice.{Notice}
+use Rattle.laptop.specs.declared.Told.the-variants.{Attention}
+-- `hear_request` meets its promise.
+use mathlib.Core.Path.{ap, _∙_}
+use Rattle.laptop.proofs.Unawaited.{request-attention, request-other}
+use borrow.Author.Needs.{needs}
+use Rattle.laptop.proofs.hearing.hear_request.Statement.{statement}
+use Rattle.laptop.proofs.hearing.hear_request.Tie as tie
+
+notice-of-requires : tie.Need-notice-of-requires
+notice-of-requires c κs = search needs
+
+turned-requires : tie.Need-turned-requires
+turned-requires c κs = search needs
+
+returns : tie.Need-returns
+returns c = c .turned .ensures ∙ ap (λ (n : Notice). turnedTo (Attention n) (c .before .before .before .before .args .laptop)) (c .before .notice-of .ensures) ∙ request-attention (c .before .before .before .before .args .laptop) (c .before .before .before .before .args .head) (c .before .before .before .before .args .count) (c .before .before .before .before .args .object) (c .before .before .if1 .taken)
+
+refused-requires : tie.Need-refused-requires
+refused-requires c κs = search needs
+
+returns-2 : tie.Need-returns-2
+returns-2 c = c .refused .ensures ∙ request-other (c .before .before .before .args .laptop) (c .before .before .before .args .head) (c .before .before .before .args .count) (c .before .before .before .args .object) (c .before .if1 .left)
+
+pub hear-request-spec : {M : Type 1} → statement M
+hear-request-spec =
+    tie.close (tie.spec notice-of-requires turned-requires returns refused-requires returns-2)

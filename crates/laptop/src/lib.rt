@@ -1,0 +1,98 @@
+// The laptop end (Initiator): it asks, gathers a candidate and holds a catalogue. Document 01, "The laptop end".
+//
+// What is small goes by value in a `Laptop`. Lent beside it, in arrays that every call leaves as its promise says: the candidate's SVIDs, the
+// number of modes of each and its identity objects; the same of the held catalogue; the entered modes of each held SVID, a bit for each
+// position; and the two runs of mode words.
+mod answers;
+mod gathering;
+mod hearing;
+mod marks;
+mod modes;
+mod owner;
+mod places;
+mod publishing;
+mod settling;
+mod timers;
+
+pub use hearing::message;
+pub use marks::report;
+use messages::Request;
+pub use modes::enter;
+pub use modes::exit;
+pub use owner::drop;
+pub use owner::next;
+pub use owner::start_over;
+pub use places::held_list;
+pub use settling::fresh;
+pub use timers::entry_timer;
+pub use timers::exit_timer;
+pub use timers::protocol_error;
+pub use timers::response_timer;
+
+// Nothing is awaited, or the answer to a request.
+pub enum Wait {
+    Nothing,
+    Answer(Request),
+}
+
+// No candidate, its list is open, or its list is done and modes are missing.
+pub enum Candidate {
+    Absent,
+    Open,
+    Done,
+}
+
+// How many identity objects and SVIDs a catalogue has.
+pub struct Size {
+    pub objects: u8,
+    pub count: u8,
+}
+
+pub enum Held {
+    Nothing,
+    Catalogue(Size),
+}
+
+// Besides what is awaited and where the candidate stands: the candidate's size, how many of its SVIDs have their modes, the pages counted
+// since the last Identity was sent, and the held catalogue's size.
+pub struct Laptop {
+    pub wait: Wait,
+    pub candidate: Candidate,
+    pub gathered: Size,
+    pub filled: u8,
+    pub pages: u8,
+    pub held: Held,
+}
+
+// An Attention: its SVID and position, and how many objects follow its header (0 or 1), with that object or 0.
+pub struct Notice {
+    pub svid: u16,
+    pub position: u8,
+    pub count: u8,
+    pub object: u32,
+}
+
+// What policy is told: an Attention, or what ended the wait of an enter or exit that came to nothing.
+pub enum Told {
+    Nothing,
+    Attention(Notice),
+    Nak(Request),
+    Busy(Request),
+    Timer(Request),
+    ProtocolError(Request),
+}
+
+// What a call gives back: the refusal number, how many bytes of the output buffer are to be sent, what policy is told, and the new state.
+pub struct Step {
+    pub refusal: u8,
+    pub length: u8,
+    pub told: Told,
+    pub laptop: Laptop,
+}
+
+// A lent run has at least so many words, six for each SVID.
+pub const RUN_WORDS: usize = 432;
+
+pub const MODES_EACH: usize = 6;
+
+const MOST_PAGES: u8 = 200;

@@ -1,0 +1,62 @@
+// Entered modes: a set of six bits for each held SVID.
+ghost use mathlib.Core.Path.{_≡_};
+ghost use lib.Bits.{bitAnd, bitOr};
+ghost use Prim.Native.Nat.{_-_};
+ghost use lib.ListN.{getD};
+ghost use Rattle.laptop.specs.Marks.{reported};
+ghost use Rattle.laptop.specs.Marks.{named as Marks·named};
+use crate::Laptop;
+use crate::places::held_list;
+use crate::places::place_of;
+
+// The set of what a position names: its own bit, or all six for 7.
+pub(crate) fn named(position: u8) -> u8
+    ensures { λ r. ⌜ r ≡ Marks·named position ⌝ }
+{
+    match position {
+        1 => 1,
+        2 => 2,
+        3 => 4,
+        4 => 8,
+        5 => 16,
+        6 => 32,
+        7 => 63,
+        _ => 0,
+    }
+}
+
+// The set of a place, or none past the end.
+pub(crate) fn set_at(entered: &[u8], place: usize) -> u8
+    ensures { λ r. ⌜ r ≡ getD (now (entered .entry)) place 0 ⌝ }
+{
+    if place < entered.len() {
+        entered[place]
+    } else {
+        0
+    }
+}
+
+pub(crate) fn marked(set: u8, position: u8) -> u8
+    ensures { λ r. ⌜ r ≡ bitOr set (Marks·named position) ⌝ }
+{
+    set | named(position)
+}
+
+pub(crate) fn unmarked(set: u8, position: u8) -> u8
+    ensures { λ r. ⌜ r ≡ bitAnd set (63 - Marks·named position) ⌝ }
+{
+    set & (63 - named(position))
+}
+
+// How many modes of the SVID are entered, 0 if it is not held.
+pub fn report(laptop: Laptop, svid: u16, held_svids: &[u16; 72], entered: &[u8; 72]) -> u32
+    ensures { λ r. ⌜ r ≡ reported (laptop .held) (now («held_svids» .entry)) (now (entered .entry)) svid ⌝ }
+{
+    let held = laptop.held;
+    let list = held_list(held, held_svids);
+    let place = place_of(svid, list);
+    if list.len() <= place {
+        return 0;
+    }
+    u8::count_ones(set_at(entered, place))
+}

@@ -1,0 +1,56 @@
+//! Answers a stream of laptop events, a line each.
+
+use super::{Event, Outcome, Run};
+use crate::digest;
+use crate::fields::{self, or_nothing};
+use crate::stream::{print_hex, print_lines};
+use std::io::{self, BufRead, Write};
+
+const HEADING: &str = "event refusal sent output told awaited candidate pages held candidate_run \
+    held_run catalogue report";
+
+pub fn print_answers(input: &mut impl BufRead, output: &mut impl Write) -> io::Result<()> {
+    writeln!(output, "{HEADING}")?;
+    let mut run = Run::default();
+    print_lines("events", input, output, |number, input, output| {
+        let event = Event::take(input)?;
+        let outcome = run.take(&event);
+        write!(output, "{number} ")?;
+        print_outcome(&outcome, output)?;
+        print_laptop(&run, output)?;
+        Ok(print_readings(&outcome, output)?)
+    })
+}
+
+/// What the call itself led to.
+fn print_outcome(outcome: &Outcome, output: &mut impl Write) -> io::Result<()> {
+    write!(output, "{} ", outcome.refusal)?;
+    match &outcome.sent[..] {
+        [] => write!(output, "{}", fields::NOTHING)?,
+        sent => print_hex(sent, output)?,
+    }
+    let buffer = or_nothing(outcome.output.as_deref().map(fields::digest_of));
+    let told = or_nothing(outcome.told.map(fields::told));
+    write!(output, " {buffer} {told}")
+}
+
+/// What the laptop and its runs have come to.
+fn print_laptop(run: &Run, output: &mut impl Write) -> io::Result<()> {
+    let laptop = run.laptop();
+    let awaited = or_nothing(laptop.awaited().map(fields::request));
+    let candidate = fields::candidate(laptop.candidate());
+    let pages = laptop.page_count();
+    let held = fields::held_count(laptop);
+    write!(output, " {awaited} {candidate} {pages} {held}")?;
+    let candidate_run = digest::of_words(run.candidate());
+    let held_run = digest::of_words(run.held());
+    write!(output, " {candidate_run:08X} {held_run:08X}")
+}
+
+/// What a call that only reads has read.
+fn print_readings(outcome: &Outcome, output: &mut impl Write) -> io::Result<()> {
+    let catalogue = outcome.catalogue.as_deref();
+    let catalogue = catalogue.map(|bytes| format!("{}:{}", bytes.len(), fields::digest_of(bytes)));
+    let report = outcome.report.map(|count| count.to_string());
+    writeln!(output, " {} {}", or_nothing(catalogue), or_nothing(report))
+}

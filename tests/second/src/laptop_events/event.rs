@@ -1,0 +1,114 @@
+//! One event of the stream that drives a laptop end, and its form as bytes.
+
+use crate::call::Call;
+use crate::stream::{count_byte, take_bytes, take_kind, take_run, Stop};
+use std::io::{self, BufRead, Read, Write};
+
+const MESSAGE: u8 = 0x01;
+const REPORT: u8 = 0x49;
+const WRITE_CATALOGUE: u8 = 0x4A;
+const LENGTHS: u8 = 0x4B;
+
+/// A greater number in the stream counts as this one.
+pub const MOST_MESSAGE_BYTES: u8 = 40;
+pub const MOST_CATALOGUE_ROOM: u16 = 2500;
+pub const WHOLE_RUN: u16 = 440;
+
+#[derive(Clone, Debug, PartialEq, Eq)]
+pub enum Event {
+    /// A message of any length up to 40 bytes.
+    Message {
+        bytes: Vec<u8>,
+    },
+    Call(Call),
+    Report {
+        svid: u16,
+    },
+    /// The held catalogue is written to an output buffer of so many bytes, at most 2,500.
+    WriteCatalogue {
+        room: u16,
+    },
+    Lengths(Lengths),
+}
+
+/// How much later calls are lent: bytes of the output buffer and words of each run, at most 440.
+#[derive(Clone, Copy, Debug, PartialEq, Eq)]
+pub struct Lengths {
+    pub output: u8,
+    pub candidate: u16,
+    pub held: u16,
+}
+
+impl Event {
+    pub fn take(input: &mut impl BufRead) -> Result<Self, Stop> {
+        Ok(match take_kind(input)? {
+            MESSAGE => Self::take_message(input)?,
+            REPORT => {
+                let svid = u16::from_le_bytes(take_bytes(input)?);
+                Event::Report { svid }
+            }
+            WRITE_CATALOGUE => {
+                let room = u16::from_le_bytes(take_bytes(input)?);
+                Event::WriteCatalogue { room }
+            }
+            LENGTHS => Event::Lengths(Lengths::take(input)?),
+            kind => Event::Call(Call::take(kind, input)?),
+        })
+    }
+
+    fn take_message(input: &mut impl Read) -> Result<Self, Stop> {
+        let [length] = take_bytes(input)?;
+        let bytes = take_run(input, length.min(MOST_MESSAGE_BYTES))?;
+        Ok(Event::Message { bytes })
+    }
+
+    pub fn kind(&self) -> u8 {
+        match self {
+            Event::Message { .. } => MESSAGE,
+            Event::Call(call) => call.kind(),
+            Event::Report { .. } => REPORT,
+            Event::WriteCatalogue { .. } => WRITE_CATALOGUE,
+            Event::Lengths(_) => LENGTHS,
+        }
+    }
+
+    pub fn put(&self, output: &mut impl Write) -> io::Result<()> {
+        output.write_all(&[self.kind()])?;
+        match self {
+            Event::Message { bytes } => {
+                output.write_all(&[count_byte(bytes)])?;
+                output.write_all(bytes)
+            }
+            Event::Call(call) => call.put_body(output),
+            Event::Report { svid } => output.write_all(&svid.to_le_bytes()),
+            Event::WriteCatalogue { room } => output.write_all(&room.to_le_bytes()),
+            Event::Lengths(lengths) => lengths.put(output),
+        }
+    }
+}
+
+impl Lengths {
+    /// What is lent at the start.
+    pub const WHOLE: Lengths = Lengths {
+        output: 32,
+        candidate: WHOLE_RUN,
+        held: WHOLE_RUN,
+    };
+
+    fn take(input: &mut impl Read) -> Result<Self, Stop> {
+        let [output] = take_bytes(input)?;
+        let candidate = u16::from_le_bytes(take_bytes(input)?);
+        let held = u16::from_le_bytes(take_bytes(input)?);
+        Ok(Lengths {
+            output,
+            candidate,
+            held,
+        })
+    }
+
+    fn put(&self, output: &mut impl Write) -> io::Result<()> {
+        output.write_all(&[self.output])?;
+        output.write_all(&self.candidate.to_le_bytes())?;
+        output.write_all(&self.held.to_le_bytes())
+    }
+}

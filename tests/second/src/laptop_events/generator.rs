@@ -1,0 +1,111 @@
+//! Makes the events: those of the watcher's generator, among which runs and buffers are too short,
+//! messages are no whole objects, and the report and the catalogue are asked for.
+
+mod damage;
+mod lent;
+mod past_two_hundred;
+mod readings;
+
+use super::event::MOST_CATALOGUE_ROOM;
+use super::{Event, Outcome, Run};
+use crate::fields::{LIST_DONE, LIST_OPEN, NO_CANDIDATE};
+use crate::laptop::Candidate;
+use crate::random::Random;
+use crate::reached::{beside_refusals, refusals};
+use crate::watcher;
+use std::collections::BTreeSet;
+
+/// The refusal that is the dock's alone.
+const OF_THE_DOCK: &str = "refusal 10";
+
+struct Generator {
+    random: Random,
+    /// The laptop under the events so far.
+    run: Run,
+    /// By the kind of event, the candidate and the command awaited.
+    situations: BTreeSet<(u8, &'static str, Option<u8>)>,
+    events: Vec<Event>,
+}
+
+/// All events of a seed, in the order of the stream. The sequences before the watcher's events
+/// leave a laptop that awaits, gathers and holds nothing, as those events expect it.
+pub fn generate(seed: u64) -> Vec<Event> {
+    let mut generator = Generator {
+        random: Random::from_seed(seed),
+        run: Run::default(),
+        situations: BTreeSet::new(),
+        events: Vec::new(),
+    };
+    generator.nothing_held();
+    generator.past_two_hundred();
+    for event in watcher::generator::generate(seed) {
+        generator.among(&event.into());
+    }
+    generator.events
+}
+
+/// What the lines of any seed reach.
+pub fn expected() -> Vec<String> {
+    let refusals = refusals().into_iter().filter(|name| name != OF_THE_DOCK);
+    refusals.chain(beside_refusals()).collect()
+}
+
+impl From<watcher::Event> for Event {
+    fn from(event: watcher::Event) -> Self {
+        match event {
+            watcher::Event::Message { objects } => Event::of_objects(&objects),
+            watcher::Event::Call(call) => Event::Call(call),
+        }
+    }
+}
+
+impl Event {
+    fn of_objects(objects: &[u32]) -> Self {
+        let bytes = objects.iter().flat_map(|word| word.to_le_bytes()).collect();
+        Event::Message { bytes }
+    }
+}
+
+impl Generator {
+    fn push(&mut self, event: Event) -> Outcome {
+        let outcome = self.run.take(&event);
+        self.events.push(event);
+        outcome
+    }
+
+    /// An event of the watcher, at times with others before and after it, none of which changes
+    /// the laptop.
+    fn among(&mut self, event: &Event) {
+        let situation = self.situation(event);
+        if self.situations.insert(situation) {
+            self.with_each_short_length(event);
+            self.write_with_all_runs(MOST_CATALOGUE_ROOM);
+        }
+        if self.random.is_rare() {
+            self.damaged(event);
+        }
+        let held_before = self.run.laptop().held().cloned();
+        if self.random.is_rare() {
+            self.with_drawn_lengths(event);
+        } else {
+            self.push(event.clone());
+        }
+        if self.run.laptop().held() != held_before.as_ref() {
+            self.catalogue_at_its_length();
+        }
+        if self.random.is_rare() {
+            self.drawn_reading(event);
+        }
+    }
+
+    fn situation(&self, event: &Event) -> (u8, &'static str, Option<u8>) {
+        let laptop = self.run.laptop();
+        let candidate = match laptop.candidate() {
+            Candidate::None => NO_CANDIDATE,
+            Candidate::ListOpen(_) => LIST_OPEN,
+            Candidate::ListDone(_) => LIST_DONE,
+        };
+        let command = laptop.awaited().map(|request| request.command);
+        (event.kind(), candidate, command)
+    }
+}

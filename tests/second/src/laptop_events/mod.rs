@@ -1,0 +1,10 @@
+//! Events that drive the laptop end of both implementations, with all that a caller can lend and
+//! ask: their stream and making.
+
+pub mod answers;
+mod event;
+pub mod generator;
+mod run;
+
+pub use event::Event;
+pub use run::{Outcome, Run};

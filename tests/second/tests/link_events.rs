@@ -1,0 +1,201 @@
+//! The stream of link events and its answers, held against lines written by hand.
+
+use second::link_events::answers::print_answers;
+use second::link_events::generator::generate;
+use second::link_events::{Data, Event, Start};
+
+const HEADING: &str = "event permitted refusal pages candidate held catalogue page lost\n";
+const KNOWN: [u8; 15] = [
+    0x40, 0x41, 0x42, 0x43, 0x46, 0x47, 0x48, 0x50, 0x51, 0x52, 0x53, 0x54, 0x55, 0x56, 0x57,
+];
+const DROP: u8 = 0x42;
+const TIMER: u8 = 0x43;
+const ENTER: [u8; 4] = [0x47, 0x01, 0xFF, 1];
+/// Next, reaches, gives, arrives, sent.
+const EXCHANGE: [u8; 5] = [0x40, 0x50, 0x52, 0x54, 0x56];
+/// The same, but the dock hears that its answer failed.
+const UNCONFIRMED: [u8; 5] = [0x40, 0x50, 0x52, 0x54, 0x57];
+
+fn answers(mut stream: &[u8]) -> String {
+    let mut output = Vec::new();
+    print_answers(&mut stream, &mut output).unwrap();
+    String::from_utf8(output).unwrap()
+}
+
+/// Identity 7, 8, 9 and these SVIDs with one mode each; the dock on that page, the old or none.
+fn start(svids: &[u16], mode: u32, page: u8, old: u8) -> Vec<u8> {
+    let mut bytes = vec![3, 7, 0, 0, 0, 8, 0, 0, 0, 9, 0, 0, 0, svids.len() as u8];
+    bytes.extend(svids.iter().flat_map(|svid| svid.to_le_bytes()));
+    for _ in svids {
+        bytes.push(1);
+        bytes.extend(mode.to_le_bytes());
+    }
+    bytes.extend([page, old]);
+    bytes
+}
+
+/// Case L's SVID and mode.
+fn one() -> Vec<u8> {
+    start(&[0xFF01], 0x405, 0, 0)
+}
+
+#[test]
+fn every_form_of_line_is_as_agreed() {
+    let trouble = [0x40, 0x51, TIMER, TIMER, 0x55];
+    let busy = [0x40, 0x40, 0x50, 0x53, 0x56, 0x54];
+    let events = [&EXCHANGE[..], &trouble, &EXCHANGE, &busy, &EXCHANGE, &ENTER].concat();
+    let lines = "1 permitted 0 0 none 1 E3C0FFF3 0 0\n\
+        2 permitted 0 0 none 1 E3C0FFF3 0 0\n\
+        3 permitted 0 0 none 1 E3C0FFF3 0 0\n\
+        4 permitted 0 0 open:0 1 E3C0FFF3 0 0\n\
+        5 permitted 0 0 open:0 1 E3C0FFF3 0 0\n\
+        6 permitted 0 0 open:0 1 E3C0FFF3 0 0\n\
+        7 permitted - 0 open:0 1 E3C0FFF3 0 0\n\
+        8 permitted 0 0 open:0 1 E3C0FFF3 0 0\n\
+        9 - - 0 open:0 1 E3C0FFF3 0 0\n\
+        10 - - 0 open:0 1 E3C0FFF3 0 0\n\
+        11 permitted 0 0 open:0 1 E3C0FFF3 0 0\n\
+        12 permitted 0 0 open:0 1 E3C0FFF3 0 0\n\
+        13 permitted 0 0 open:0 1 E3C0FFF3 0 0\n\
+        14 permitted 0 1 done:1:0 1 E3C0FFF3 0 0\n\
+        15 permitted 0 1 done:1:0 1 E3C0FFF3 0 0\n\
+        16 permitted 0 1 done:1:0 1 E3C0FFF3 0 0\n\
+        17 permitted 7 1 done:1:0 1 E3C0FFF3 0 0\n\
+        18 permitted 0 1 done:1:0 1 E3C0FFF3 0 0\n\
+        19 permitted 0 1 done:1:0 1 E3C0FFF3 0 0\n\
+        20 permitted 0 1 done:1:0 1 E3C0FFF3 0 0\n\
+        21 permitted 0 1 done:1:0 1 E3C0FFF3 0 0\n\
+        22 permitted 0 1 done:1:0 1 E3C0FFF3 0 0\n\
+        23 permitted 0 1 done:1:0 1 E3C0FFF3 0 0\n\
+        24 permitted 0 1 done:1:0 1 E3C0FFF3 0 0\n\
+        25 permitted 0 1 none 1 B1338CC3 0 0\n\
+        26 permitted 0 1 none 1 B1338CC3 0 0\n\
+        27 permitted 0 1 none 1 B1338CC3 0 0\n\
+        end 27 events\n";
+    let stream = [start(&[0xFF01], 0x405, 0, 1), events].concat();
+    assert_eq!(answers(&stream), [HEADING, lines].concat());
+}
+
+#[test]
+fn case_11_has_one_confirmation_lost_and_three_pages() {
+    let svids: Vec<u16> = (1..=13).collect();
+    let pages = [&EXCHANGE[..], &UNCONFIRMED, &EXCHANGE, &EXCHANGE].concat();
+    let stream = [start(&svids, 0xA, 5, 0), pages, EXCHANGE.repeat(13)].concat();
+    let printed = answers(&stream);
+    let lines: Vec<&str> = printed.lines().collect();
+    assert_eq!(lines[1], "1 permitted 0 0 none - - 1 0");
+    assert_eq!(lines[2], "2 permitted 0 0 none - - 0 0");
+    assert_eq!(lines[9], "9 permitted 0 1 open:12 - - 0 0");
+    assert_eq!(lines[10], "10 permitted 0 1 open:12 - - 0 1");
+    assert_eq!(lines[14], "14 permitted 0 2 open:12 - - 0 1");
+    assert_eq!(lines[15], "15 permitted 0 2 open:12 - - 1 1");
+    assert_eq!(lines[19], "19 permitted 0 3 done:13:0 - - 1 1");
+    assert_eq!(lines[83], "83 permitted 0 3 done:13:12 - - 1 1");
+    assert_eq!(lines[84], "84 permitted 0 3 none 13 C8C7028F 1 1");
+    assert_eq!(lines[86], "end 85 events");
+}
+
+#[test]
+fn an_empty_list_is_held_after_its_nak() {
+    let stream = [start(&[], 0, 0, 0), EXCHANGE.repeat(2)].concat();
+    let printed = answers(&stream);
+    let last = "10 permitted 0 0 none 0 414E757C 0 0\nend 10 events\n";
+    assert!(printed.ends_with(last));
+}
+
+#[test]
+fn a_start_without_events_ends_at_once() {
+    assert_eq!(answers(&one()), [HEADING, "end 0 events\n"].concat());
+}
+
+#[test]
+fn data_that_is_cut_or_breaks_a_limit_is_bad() {
+    let bad = [HEADING, "bad dock data\n"].concat();
+    for length in 0..one().len() {
+        assert_eq!(answers(&one()[..length]), bad);
+    }
+    let seventy_three: Vec<u16> = (1..=73).collect();
+    for svids in [&[0][..], &[5, 0], &[5, 5], &seventy_three] {
+        assert_eq!(answers(&start(svids, 1, 0, 0)), bad);
+    }
+    let [identity, modes, old] = [0, 16, one().len() - 1];
+    assert_eq!(one()[modes - 2..=modes], [0x01, 0xFF, 1]);
+    let bytes = [
+        (identity, 2),
+        (identity, 7),
+        (modes, 0),
+        (modes, 7),
+        (old, 2),
+    ];
+    for (place, byte) in bytes {
+        let mut stream = one();
+        stream[place] = byte;
+        stream.extend([1; 64]);
+        assert_eq!(answers(&stream), bad);
+    }
+}
+
+#[test]
+fn any_other_kind_is_unknown_and_stops_the_answers() {
+    for kind in (0..=u8::MAX).filter(|kind| !KNOWN.contains(kind)) {
+        let printed = answers(&[&one()[..], &[DROP, kind, DROP]].concat());
+        let lines = "1 permitted 0 0 none - - 0 0\nunknown kind after 1 events\n";
+        assert_eq!(printed, [HEADING, lines].concat());
+    }
+}
+
+#[test]
+fn an_event_cut_anywhere_stops_the_answers() {
+    for kind in [0x47, 0x48] {
+        for length in 1..4 {
+            let event = [kind, 0x01, 0xFF, 1];
+            let printed = answers(&[&one()[..], &[DROP], &event[..length]].concat());
+            let lines = "1 permitted 0 0 none - - 0 0\ncut after 1 events\n";
+            assert_eq!(printed, [HEADING, lines].concat());
+        }
+    }
+}
+
+#[test]
+fn the_input_counts_as_ended_after_a_million() {
+    let printed = answers(&[one(), vec![DROP; 1_000_001]].concat());
+    let last = "\n1000000 permitted 0 0 none - - 0 0\nend 1000000 events\n";
+    assert!(printed.ends_with(last));
+}
+
+#[test]
+fn generated_streams_come_back_from_bytes_and_are_answered_to_their_end() {
+    for seed in [0, 1, 12, 72, u64::MAX] {
+        let (start, events) = generate(seed);
+        let mut stream = Vec::new();
+        start.put(&mut stream).unwrap();
+        events
+            .iter()
+            .for_each(|event| event.put(&mut stream).unwrap());
+        let mut input = &stream[..];
+        assert_eq!(Start::take(&mut input), Ok(start));
+        for event in &events {
+            assert_eq!(Event::take(&mut input).ok().as_ref(), Some(event));
+        }
+        assert!(input.is_empty() && stream.len() <= 20_000);
+        let last = format!("\nend {} events\n", events.len());
+        assert!(answers(&stream).ends_with(&last));
+    }
+}
+
+#[test]
+fn the_same_seed_gives_the_same_stream_and_another_does_not() {
+    assert_eq!(generate(5), generate(5));
+    assert_ne!(generate(5), generate(5 + 73));
+}
+
+#[test]
+fn the_old_catalogue_is_of_another_dock() {
+    let old = Data::old();
+    assert_eq!(
+        (&old.svids[..], &old.modes[0][..]),
+        (&[0x1234][..], &[0x55][..])
+    );
+    assert_eq!(old.modes_of(0x1234), Some(&[0x55][..]));
+    assert_eq!(old.modes_of(0xFF01), None);
+}

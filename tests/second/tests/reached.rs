@@ -1,0 +1,101 @@
+//! The counts of what lines reach, held against lines written by hand.
+
+use second::reached::{are_lines, beside_refusals, refusals, Reached};
+
+const LAPTOP: &str = "event refusal sent output told awaited candidate pages held candidate_run \
+    held_run catalogue report\n\
+    1 0 01A000FF EE763419 - FF00:1:0 none 0 - 5F29F345 5F29F345 - -\n\
+    2 0 - - - - open:0 0 - 5F29F345 5F29F345 - -\n\
+    3 11 - - - - open:0 199 - 5F29F345 5F29F345 - -\n\
+    4 0 - - - FF01:3:0 done:2:1 200 0 5F29F345 5F29F345 - -\n\
+    5 0 04A301FF 5CCE87A6 - FF01:4:3 none 1 72 0FDC1314 0FDC1314 - -\n\
+    6 7 - - - FF01:4:3 none 1 72 0FDC1314 0FDC1314 - -\n\
+    7 0 05A701FF 5CCE87A6 - FF01:5:7 none 1 72 0FDC1314 0FDC1314 - -\n\
+    unknown kind after 7 events\n";
+const WATCHER: &str = "event refusal sent pages held\n\
+    1 13 - 200 5\n\
+    2 0 FF01A104 1 5\n\
+    unknown kind after 2 events\n";
+const DOCK: &str = "event refusal length buffer standing page count\n\
+    1 10 0 5A5A ready 0 0\n\
+    end 1 events\n";
+const LINK: &str = "event permitted refusal pages candidate held catalogue page lost\n\
+    1 permitted 9 0 none - - 0 0\n\
+    2 - - 0 none 1 E3C0FFF3 0 0\n\
+    end 2 events\n";
+
+fn reached(texts: &[&str]) -> Reached {
+    let mut reached = Reached::default();
+    for text in texts {
+        reached.count_lines(text);
+    }
+    reached
+}
+
+#[test]
+fn nothing_counted_is_everything_missing() {
+    let nothing = reached(&[]);
+    assert_eq!(nothing.missing(&refusals()).len(), 14);
+    let states_lists_pages_positions = 8 + 73 + 2 + 13;
+    assert_eq!(
+        nothing.missing(&beside_refusals()).len(),
+        states_lists_pages_positions
+    );
+    assert_eq!(nothing.missing(&refusals())[9], "refusal 10 never occurred");
+}
+
+#[test]
+fn each_event_has_one_line_and_the_last_line_is_none() {
+    let counts = [LAPTOP, WATCHER, DOCK, LINK, "", "event refusal\n"];
+    let counts = counts.map(|text| Reached::default().count_lines(text));
+    assert_eq!(counts, [7, 2, 1, 2, 0, 0]);
+}
+
+#[test]
+fn laptop_lines_tell_refusals_states_lists_pages_and_positions() {
+    let counted = reached(&[LAPTOP]);
+    let expected = [
+        ("refusal 11", 1),
+        ("refusal 7", 1),
+        ("refusal 13", 0),
+        ("candidate none awaiting command 1", 1),
+        ("candidate open awaiting nothing", 2),
+        ("candidate done awaiting command 3", 1),
+        ("candidate none awaiting command 4", 2),
+        ("candidate none awaiting nothing", 0),
+        ("held list of 0", 1),
+        ("held list of 72", 3),
+        ("page count 199", 1),
+        ("page count 200", 1),
+        ("enter sent at position 3", 1),
+        ("exit sent at position 7", 1),
+        ("exit sent at position 3", 0),
+    ];
+    for (name, count) in expected {
+        assert_eq!(counted.count_of(name), count, "{name}");
+        let looked_for = refusals().contains(&name.to_string());
+        assert!(looked_for || beside_refusals().contains(&name.to_string()));
+    }
+}
+
+#[test]
+fn lines_of_all_programs_add_up() {
+    let counted = reached(&[WATCHER, DOCK, LINK, WATCHER]);
+    let names = ["refusal 13", "refusal 10", "refusal 9", "page count 200"];
+    assert_eq!(names.map(|name| counted.count_of(name)), [2, 1, 1, 2]);
+    assert_eq!(counted.count_of("held list of 5"), 4);
+    assert_eq!(counted.missing(&refusals()).len(), 14 - 3);
+    assert!(counted
+        .to_string()
+        .starts_with("refusal 1: 0\nrefusal 2: 0\n"));
+}
+
+#[test]
+fn lines_begin_with_a_heading_and_a_stream_does_not() {
+    for text in [LAPTOP, WATCHER, DOCK, LINK] {
+        assert!(are_lines(text.as_bytes()));
+    }
+    for stream in [&[][..], &[0x40], &[0x01, 0], b"even"] {
+        assert!(!are_lines(stream));
+    }
+}

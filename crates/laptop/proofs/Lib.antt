@@ -3,6 +3,7 @@ pub mod Asking
 pub mod Copying
 pub mod Entering
 pub mod HeldList
+pub mod Leaves
 pub mod Listing
 pub mod Marking
 pub mod Outcomes

@@ -2,8 +2,10 @@
 pub mod Answers
 pub mod Calls
 pub mod Catalogue
+pub mod Done
 pub mod Hearing
 pub mod Marks
 pub mod Owner
 pub mod State
 pub mod Timers
+pub mod WellFormed

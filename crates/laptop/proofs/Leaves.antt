@@ -1,0 +1,177 @@
+-- A refusal changes no lent byte, whatever the call.
+use mathlib.Core.Path.{_≡_, refl, ap, ap₂, sym, _∙_}
+use mathlib.Core.Bool.{Bool, true, false, cond}
+use mathlib.Core.List.{List}
+use Prim.Native.Nat.{ℕ}
+use lib.Dec.{leb, ltb, eqb}
+use lib.ListN.{length, getD, take}
+use Rattle.messages.specs.Layout.{Message, messageBytes}
+use Rattle.messages.specs.Reading.{Outcome, accepted, refused, readOutcome}
+use Rattle.messages.specs.Requests.{requestOf}
+use Rattle.messages.specs.declared.request.Request.{Request}
+use Rattle.messages.specs.Writing.{writeRefusal, written}
+use Rattle.pages.specs.Pages.{halves}
+use Rattle.pages.specs.Taking.{verdict}
+use Rattle.pages.specs.declared.taking.Verdict.{Verdict}
+use Rattle.pages.specs.declared.taking.Verdict.the-variants.{Bad, Repeat, More, Ends}
+use Rattle.laws.specs.Padded.{padded}
+use Rattle.laptop.specs.Answers.{Opening, Marking, Gathering, gathering, Filling, filling, hearIdentity, unlessLast, takeAs, takePage, hearSvids, storeModes, hearModes, hearMode, isWhole}
+use Rattle.laptop.specs.Calls.{Decision, refuses, turns, sends, refusedBy, sentBy, stepOf, bufferOf, shortRuns}
+use Rattle.laptop.specs.Done.{Call, message, next, startOver, drop, enter, exit, timer, protocolError, done}
+use Rattle.laptop.specs.Hearing.{Result, fits, withOpening, withGathering, withFilling, withMarking, settledStep, settledList, settledRun, settled, hearAnswer, hear, heard}
+use Rattle.laptop.specs.State.{Memory, memory, dropped, counted, published}
+use Rattle.laptop.specs.declared.Laptop.{Laptop}
+use Rattle.laptop.specs.declared.Step.{Step}
+
+-- the output buffer
+left-alone : (m : Message) (out : List ℕ) → eqb (writeRefusal m (length out)) 0 ≡ false → written m out ≡ out
+unfolding written
+left-alone m out e = rw e
+
+buffer-left : (l : Laptop) (d : Decision) (out : List ℕ) → (stepOf l d (length out) .refusal ≡ 0 → ⊥) → bufferOf d out ≡ out
+unfolding stepOf bufferOf
+buffer-left l (refuses number after) out h = refl
+buffer-left l (turns told after) out h = refl
+buffer-left l (sends m after) out h = go (eqb (writeRefusal m (length out)) 0) refl h
+  where
+    go : (t : Bool) → eqb (writeRefusal m (length out)) 0 ≡ t →
+        ((cond t (sentBy (length (messageBytes m)) after) (refusedBy (writeRefusal m (length out)) l)) .refusal ≡ 0 → ⊥) → written m out ≡ out
+    go true e n = absurd (n refl)
+    go false e n = left-alone m out e
+
+-- a result that is refused only where it leaves what is lent
+abbrev Leaves : Memory → Result → Type 0
+Leaves m r = (r .step .refusal ≡ 0 → ⊥) → r .after ≡ m
+
+either : (m : Memory) (t : Bool) (a b : Result) → Leaves m a → Leaves m b → Leaves m (cond t a b)
+either m true a b la lb = la
+either m false a b la lb = lb
+
+settled-refusal : (s : Step) → settledStep s .refusal ≡ s .refusal
+unfolding settledStep
+settled-refusal s = go (isWhole (s .laptop))
+  where
+    go : (t : Bool) → (cond t (record { refusal = s .refusal; length = s .length; told = s .told; laptop = published (s .laptop) }) s) .refusal ≡ s .refusal
+    go true = refl
+    go false = refl
+
+-- with a candidate that is not whole nothing is published
+held-left : (r : Result) → isWhole (r .step .laptop) ≡ false → settled r .after ≡ r .after
+unfolding settledList settledRun
+held-left r e = rw e
+
+-- what a refused page leaves: the list, and no whole candidate
+abbrev PageLeaves : List ℕ → Gathering → Type 0
+PageLeaves svids g = (g .step .refusal ≡ 0 → ⊥) → (g .svids ≡ svids) × (isWhole (g .step .laptop) ≡ false)
+
+page-either : (svids : List ℕ) (t : Bool) (a b : Gathering) → PageLeaves svids a → PageLeaves svids b → PageLeaves svids (cond t a b)
+page-either svids true a b la lb = la
+page-either svids false a b la lb = lb
+
+void-page : (l : Laptop) (svids : List ℕ) (number : ℕ) → PageLeaves svids (gathering (refusedBy number (dropped l)) svids)
+unfolding isWhole
+void-page l svids number n = (refl, refl)
+
+last-leaves : (l : Laptop) (svids : List ℕ) (g : Gathering) → PageLeaves svids g → PageLeaves svids (unlessLast l svids g)
+unfolding unlessLast
+last-leaves l svids g p = page-either svids (leb 200 (l .pages)) _ g (void-page l svids 14) p
+
+taken-leaves : (l : Laptop) (svids values : List ℕ) (n : ℕ) (v : Verdict) → PageLeaves svids (takeAs l svids values n v)
+unfolding takeAs
+taken-leaves l svids values n Bad = void-page l svids 8
+taken-leaves l svids values n Repeat = last-leaves l svids _ (λ h. absurd (h refl))
+taken-leaves l svids values n More = last-leaves l svids _ (λ h. absurd (h refl))
+taken-leaves l svids values n (Ends k) = λ h. absurd (h refl)
+
+svids-leave : (l : Laptop) (kind : ℕ) (values svids : List ℕ) → PageLeaves svids (hearSvids l kind values svids)
+unfolding hearSvids takePage
+svids-leave l kind values svids =
+    page-either svids (eqb kind 1) _ _ (taken-leaves (counted l) svids values _ _)
+    (page-either svids (eqb kind 3) _ _ (λ h. absurd (h refl))
+    (page-either svids (eqb (l .gathered .count) 0) _ _ (λ h. absurd (h refl)) (void-page l svids 8)))
+
+gathering-leaves : (m : Memory) (g : Gathering) → PageLeaves (m .svids) g → Leaves m (settled (withGathering m g))
+gathering-leaves m g p n =
+    let left = p (λ z. n (settled-refusal (g .step) ∙ z)) in
+    held-left (withGathering m g) (left .1) ∙
+    ap (λ (v : List ℕ). memory v (m .modes) (m .identity) (m .run) (m .heldSvids) (m .heldModes) (m .heldIdentity) (m .heldRun) (m .entered)) (left .0)
+
+-- the same of Modes
+abbrev FillLeaves : List ℕ → List ℕ → Filling → Type 0
+FillLeaves modes run f = (f .step .refusal ≡ 0 → ⊥) → (f .modes ≡ modes) × (f .run ≡ run) × (isWhole (f .step .laptop) ≡ false)
+
+fill-either : (modes run : List ℕ) (t : Bool) (a b : Filling) → FillLeaves modes run a → FillLeaves modes run b → FillLeaves modes run (cond t a b)
+fill-either modes run true a b la lb = la
+fill-either modes run false a b la lb = lb
+
+void-fill : (l : Laptop) (modes run : List ℕ) → FillLeaves modes run (filling (refusedBy 8 (dropped l)) modes run)
+unfolding isWhole
+void-fill l modes run n = (refl, refl, refl)
+
+modes-leave : (l : Laptop) (kind : ℕ) (words modes run : List ℕ) → FillLeaves modes run (hearModes l kind words modes run)
+unfolding hearModes storeModes
+modes-leave l kind words modes run =
+    fill-either modes run (eqb kind 3) _ _ (λ h. absurd (h refl))
+    (fill-either modes run (eqb kind 1) _ _ (fill-either modes run (ltb (l .filled) 72) _ _ (λ h. absurd (h refl)) (void-fill l modes run))
+    (void-fill l modes run))
+
+filling-leaves : (m : Memory) (f : Filling) → FillLeaves (m .modes) (m .run) f → Leaves m (settled (withFilling m f))
+filling-leaves m f p n =
+    let left = p (λ z. n (settled-refusal (f .step) ∙ z)) in
+    held-left (withFilling m f) (left .2) ∙
+    ap₂ (λ (o r : List ℕ). memory (m .svids) o (m .identity) r (m .heldSvids) (m .heldModes) (m .heldIdentity) (m .heldRun) (m .entered)) (left .0) (left .1)
+
+-- an answer to Identity, Enter or Exit that fits is accepted
+opening-leaves : (m : Memory) (t : Bool) (a b : Opening) → a .step .refusal ≡ 0 → b .step .refusal ≡ 0 → Leaves m (withOpening m (cond t a b))
+opening-leaves m true a b ea eb n = absurd (n ea)
+opening-leaves m false a b ea eb n = absurd (n eb)
+
+marking-leaves : (m : Memory) (t : Bool) (a b : Marking) → a .step .refusal ≡ 0 → b .step .refusal ≡ 0 → Leaves m (withMarking m (cond t a b))
+marking-leaves m true a b ea eb n = absurd (n ea)
+marking-leaves m false a b ea eb n = absurd (n eb)
+
+identity-leaves : (l : Laptop) (m : Memory) (kind n : ℕ) (objects : List ℕ) →
+    Leaves m (withOpening m (hearIdentity l kind n objects (m .svids) (m .identity)))
+unfolding hearIdentity
+identity-leaves l m kind n objects = opening-leaves m (eqb kind 1) _ _ refl refl
+
+mode-leaves : (l : Laptop) (m : Memory) (kind : ℕ) (r : Request) → Leaves m (withMarking m (hearMode l kind r (m .heldSvids) (m .entered)))
+unfolding hearMode
+mode-leaves l m kind r = marking-leaves m (eqb kind 1) _ _ refl refl
+
+answer-leaves : (l : Laptop) (m : Memory) (x : Message) → Leaves m (hearAnswer l m x)
+unfolding hearAnswer
+answer-leaves l m x =
+    either m (eqb (x .head .command) 1) _ _ (identity-leaves l m (x .head .kind) (length (x .objects)) (padded (x .objects)))
+    (either m (eqb (x .head .command) 2) _ _ (gathering-leaves m _ (svids-leave l (x .head .kind) (halves (x .objects)) (m .svids)))
+    (either m (eqb (x .head .command) 3) _ _ (filling-leaves m _ (modes-leave l (x .head .kind) (x .objects) (m .modes) (m .run)))
+    (mode-leaves l m (x .head .kind) (requestOf (x .head)))))
+
+refused-leaves : (l : Laptop) (m : Memory) (number : ℕ) → Leaves m (hear l m (refused number))
+unfolding hear
+refused-leaves l m number n = refl
+
+accepted-leaves : (l : Laptop) (m : Memory) (x : Message) → Leaves m (hear l m (accepted x))
+unfolding hear
+accepted-leaves l m x =
+    either m (eqb (x .head .kind) 0) _ _ (λ n. refl) (either m (fits (l .wait) (x .head)) _ _ (answer-leaves l m x) (λ n. refl))
+
+message-leaves : (l : Laptop) (m : Memory) (o : Outcome) → Leaves m (heard l m o)
+unfolding heard
+message-leaves l m o = either m (shortRuns (length (m .run)) (length (m .heldRun))) _ _ (λ n. refl) (go o)
+  where
+    go : (p : Outcome) → Leaves m (hear l m p)
+    go (refused number) = refused-leaves l m number
+    go (accepted x) = accepted-leaves l m x
+
+-- a refusal changes no lent byte: nothing that a call is lent, and nothing of the output buffer
+pub refusal-leaves : (c : Call) (l : Laptop) (m : Memory) (out : List ℕ) → (done c l m out .step .refusal ≡ 0 → ⊥) →
+    (done c l m out .after ≡ m) × (done c l m out .buffer ≡ out)
+refusal-leaves (message bytes) l m out n = (message-leaves l m (readOutcome bytes) n, refl)
+refusal-leaves next l m out n = (refl, buffer-left l _ out n)
+refusal-leaves startOver l m out n = (refl, buffer-left l _ out n)
+refusal-leaves drop l m out n = (refl, buffer-left l _ out n)
+refusal-leaves (enter svid position) l m out n = (refl, buffer-left l _ out n)
+refusal-leaves (exit svid position) l m out n = (refl, buffer-left l _ out n)
+refusal-leaves (timer first last) l m out n = (refl, buffer-left l _ out n)
+refusal-leaves protocolError l m out n = (refl, buffer-left l _ out n)

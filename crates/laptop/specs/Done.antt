@@ -1,0 +1,45 @@
+-- Every call of the laptop as one definition: what it gives back, what is lent afterwards, and the output buffer.
+use Prim.Native.Nat.{ℕ}
+use mathlib.Core.List.{List}
+use lib.ListN.{length}
+use Rattle.messages.specs.Reading.{readOutcome}
+use Rattle.laptop.specs.Calls.{Decision, stepOf, bufferOf}
+use Rattle.laptop.specs.Hearing.{heard}
+use Rattle.laptop.specs.Owner.{decideNext, decideStartOver, decideDrop, decideEnter, decideExit}
+use Rattle.laptop.specs.State.{Memory}
+use Rattle.laptop.specs.Timers.{decideTimer, decideError}
+use Rattle.laptop.specs.declared.Laptop.{Laptop}
+use Rattle.laptop.specs.declared.Step.{Step}
+
+-- a message's bytes; the owner's calls, with SVID and position for enter and exit; the timer of commands from first to last; the protocol error
+pub data Call : Type 0 where
+  message : List ℕ → Call
+  next : Call
+  startOver : Call
+  drop : Call
+  enter : ℕ → ℕ → Call
+  exit : ℕ → ℕ → Call
+  timer : ℕ → ℕ → Call
+  protocolError : Call
+
+pub record Done : Type 0 where
+  pub step : Step
+  pub after : Memory
+  pub buffer : List ℕ
+
+-- a call that changes nothing lent but the output buffer
+abbrev pub decided : Laptop → Memory → List ℕ → Decision → Done
+decided l m out decision = record { step = stepOf l decision (length out); after = m; buffer = bufferOf decision out }
+
+abbrev pub done : Call → Laptop → Memory → List ℕ → Done
+done (message bytes) l m out =
+    record { step = heard l m (readOutcome bytes) .step; after = heard l m (readOutcome bytes) .after; buffer = out }
+done next l m out = decided l m out (decideNext l (m .svids) (m .entered) (length (m .run)) (length (m .heldRun)))
+done startOver l m out = decided l m out (decideStartOver l (m .entered) (length (m .run)) (length (m .heldRun)))
+done drop l m out = decided l m out (decideDrop l (length (m .run)) (length (m .heldRun)))
+done (enter svid position) l m out =
+    decided l m out (decideEnter l (m .heldSvids) (m .heldModes) (m .entered) (length (m .run)) (length (m .heldRun)) svid position)
+done (exit svid position) l m out =
+    decided l m out (decideExit l (m .heldSvids) (m .heldModes) (m .entered) (length (m .run)) (length (m .heldRun)) svid position)
+done (timer first last) l m out = decided l m out (decideTimer first last l (l .wait))
+done protocolError l m out = decided l m out (decideError l (l .wait))

@@ -1,0 +1,80 @@
+-- A well-formed laptop (01, "The laptop end").
+use mathlib.Core.Logic.{_⊎_}
+use mathlib.Core.Path.{_≡_}
+use mathlib.Core.Bool.{Bool, true, false, not, _||_}
+use mathlib.Core.List.{List}
+use Prim.Native.Nat.{ℕ, _<_, _≤_}
+use lib.Dec.{eqb}
+use lib.ListN.{length, getD, take}
+use Rattle.messages.specs.Requests.{identityCommand, svidsCommand, modesCommand, enterCommand}
+use Rattle.messages.specs.Table.{pdSid}
+use Rattle.messages.specs.declared.request.Request.{Request}
+use Rattle.pages.specs.Lists.{mostSvids, soundList}
+use Rattle.laptop.specs.Answers.{mostPages}
+use Rattle.laptop.specs.Catalogue.{modesEach, runWords}
+use Rattle.laptop.specs.Marks.{allPositions}
+use Rattle.laptop.specs.Owner.{anyEntered, discover, isAbsent}
+use Rattle.laptop.specs.State.{Memory, gatheredList, identityRequest}
+use Rattle.laptop.specs.declared.Candidate.{Candidate}
+use Rattle.laptop.specs.declared.Candidate.the-variants.{Absent, Open, Done}
+use Rattle.laptop.specs.declared.Held.{Held}
+use Rattle.laptop.specs.declared.Held.the-variants.{Catalogue as Held·Catalogue}
+use Rattle.laptop.specs.declared.Held.the-variants.{Nothing as Held·Nothing}
+use Rattle.laptop.specs.declared.Laptop.{Laptop}
+use Rattle.laptop.specs.declared.Size.{Size}
+use Rattle.laptop.specs.declared.Wait.{Wait}
+use Rattle.laptop.specs.declared.Wait.the-variants.{Nothing, Answer}
+
+-- what is lent has its size; a run has 432 words or more
+pub record Lent (m : Memory) : Type 0 where
+  pub svids-size : length (m .svids) ≡ mostSvids
+  pub modes-size : length (m .modes) ≡ mostSvids
+  pub run-size : runWords ≤ length (m .run)
+  pub held-run-size : runWords ≤ length (m .heldRun)
+
+-- a catalogue in arrays, of which the first n SVIDs have their modes: 3 to 6 identity objects; at most 72 SVIDs, none 0, all different; 1 to 6
+-- modes each, so that they fit 432 words
+pub record Listed (size : Size) (n : ℕ) (svids modes : List ℕ) : Type 0 where
+  pub objects-least : 3 ≤ size .objects
+  pub objects-most : size .objects ≤ 6
+  pub count-fits : size .count ≤ mostSvids
+  pub list-sound : soundList (take (size .count) svids) ≡ true
+  pub some-modes : (i : ℕ) → i < n → 1 ≤ getD modes i 0
+  pub few-modes : (i : ℕ) → i < n → getD modes i 0 ≤ modesEach
+
+abbrev pub HeldFits : Held → List ℕ → List ℕ → Type 0
+HeldFits Held·Nothing svids modes = Unit
+HeldFits (Held·Catalogue size) svids modes = Listed size (size .count) svids modes
+
+-- the list is open only under 200 pages; when it is done, modes are missing
+abbrev pub CandidateFits : Candidate → Laptop → Memory → Type 0
+CandidateFits Absent l m = Unit
+CandidateFits Open l m = Listed (l .gathered) 0 (m .svids) (m .modes) × (l .pages < mostPages) × (l .filled ≡ 0)
+CandidateFits Done l m = Listed (l .gathered) (l .filled) (m .svids) (m .modes) × (l .filled < l .gathered .count)
+
+-- what is awaited fits the candidate; the pages are counted from the sending of Identity on
+abbrev pub WaitFits : Wait → Laptop → Memory → Type 0
+WaitFits Nothing l m = Unit
+WaitFits (Answer r) l m =
+    ((r ≡ identityRequest) × (l .candidate ≡ Absent) × (l .pages ≡ 0)) ⊎
+    (((r ≡ discover pdSid svidsCommand) × (l .candidate ≡ Open)) ⊎
+    (((r ≡ discover (getD (m .svids) (l .filled) 0) modesCommand) × (l .candidate ≡ Done)) ⊎
+    ((enterCommand ≤ r .command) × (l .candidate ≡ Absent))))
+
+-- a candidate is gathered, or Identity is awaited
+abbrev pub awaitsIdentity : Wait → Bool
+awaitsIdentity Nothing = false
+awaitsIdentity (Answer r) = eqb (r .command) identityCommand
+
+abbrev pub isAsking : Laptop → Bool
+isAsking l = not (isAbsent (l .candidate)) || awaitsIdentity (l .wait)
+
+pub record WellFormed (l : Laptop) (m : Memory) : Type 0 where
+  pub lent : Lent m
+  pub held-fits : HeldFits (l .held) (m .heldSvids) (m .heldModes)
+  pub candidate-fits : CandidateFits (l .candidate) l m
+  pub wait-fits : WaitFits (l .wait) l m
+  -- meanwhile no mode is entered
+  pub none-entered : isAsking l ≡ true → anyEntered (m .entered) ≡ false
+  -- each set has six bits
+  pub sets-fit : (i : ℕ) → getD (m .entered) i 0 ≤ allPositions

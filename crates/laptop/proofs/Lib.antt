@@ -7,6 +7,7 @@ pub mod Leaves
 pub mod Listing
 pub mod Marking
 pub mod Outcomes
+pub mod Replacing
 pub mod Steps
 pub mod Storing
 pub mod Unawaited

@@ -4,6 +4,7 @@ pub mod Calls
 pub mod Catalogue
 pub mod Done
 pub mod Hearing
+pub mod Holding
 pub mod Marks
 pub mod Owner
 pub mod State

@@ -1,17 +1,16 @@
 -- A refusal changes no lent byte, whatever the call.
-use mathlib.Core.Path.{_≡_, refl, ap, ap₂, sym, _∙_}
+use mathlib.Core.Path.{_≡_, refl, ap, ap₂, _∙_}
 use mathlib.Core.Bool.{Bool, true, false, cond}
 use mathlib.Core.List.{List}
 use Prim.Native.Nat.{ℕ}
 use lib.Dec.{leb, ltb, eqb}
-use lib.ListN.{length, getD, take}
+use lib.ListN.{length}
 use Rattle.messages.specs.Layout.{Message, messageBytes}
 use Rattle.messages.specs.Reading.{Outcome, accepted, refused, readOutcome}
 use Rattle.messages.specs.Requests.{requestOf}
 use Rattle.messages.specs.declared.request.Request.{Request}
 use Rattle.messages.specs.Writing.{writeRefusal, written}
 use Rattle.pages.specs.Pages.{halves}
-use Rattle.pages.specs.Taking.{verdict}
 use Rattle.pages.specs.declared.taking.Verdict.{Verdict}
 use Rattle.pages.specs.declared.taking.Verdict.the-variants.{Bad, Repeat, More, Ends}
 use Rattle.laws.specs.Padded.{padded}

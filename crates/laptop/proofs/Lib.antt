@@ -1,8 +1,12 @@
 -- Laws on the laptop's definitions, a file for each topic.
+pub mod Answering
 pub mod Asking
+pub mod Copies
 pub mod Copying
 pub mod Entering
 pub mod HeldList
+pub mod Keeping
+pub mod Laws
 pub mod Leaves
 pub mod Listing
 pub mod Marking

@@ -1,10 +1,9 @@
 -- The held catalogue and its run change only when a catalogue is published.
-use mathlib.Core.Logic.{_⊎_, inl, inr}
-use mathlib.Core.Path.{_≡_, refl, ap, ap₂, sym, _∙_}
+use mathlib.Core.Logic.{inl, inr}
+use mathlib.Core.Path.{_≡_, refl, ap, _∙_}
 use mathlib.Core.Bool.{Bool, true, false, cond, _&&_}
-use mathlib.Core.List.{List, [], _∷_}
-use Prim.Native.Nat.{ℕ, zero, suc, _+_, _*_, _/_, _%_, _<_, _≤_}
-use native.Mathlib.Omega.{arith}
+use mathlib.Core.List.{List}
+use Prim.Native.Nat.{ℕ, _+_}
 use lib.Dec.{leb, ltb, eqb}
 use lib.ListN.{length}
 use Rattle.laws.specs.Padded.{padded}
@@ -17,10 +16,10 @@ use Rattle.messages.specs.declared.request.Request.{Request}
 use Rattle.pages.specs.Pages.{halves}
 use Rattle.pages.specs.declared.taking.Verdict.{Verdict}
 use Rattle.pages.specs.declared.taking.Verdict.the-variants.{Bad, Repeat, More, Ends}
-use Rattle.laptop.specs.Answers.{Opening, Gathering, Filling, Marking, hearIdentity, unlessLast, takeAs, takePage, hearSvids, storeModes, hearModes, hearMode, isWhole, isMode, copied}
+use Rattle.laptop.specs.Answers.{Opening, Gathering, Filling, Marking, hearIdentity, unlessLast, takeAs, takePage, hearSvids, storeModes, hearModes, hearMode, isWhole}
 use Rattle.laptop.specs.Calls.{Decision, refuses, turns, sends, refusedBy, sentBy, stepOf, unless, shortRuns}
 use Rattle.laptop.specs.Done.{Call, message, next, startOver, drop, enter, exit, timer, protocolError, done}
-use Rattle.laptop.specs.Hearing.{Result, hearRequest, fits, isLatePage, hearUnawaited, withOpening, withGathering, withFilling, withMarking, settledStep, settledList, settledRun, settled, hearAnswer, hear, heard}
+use Rattle.laptop.specs.Hearing.{Result, hearRequest, fits, isLatePage, hearUnawaited, withOpening, withMarking, settledStep, settledList, settledRun, settled, hearAnswer, hear, heard}
 use Rattle.laptop.specs.Holding.{Holding, holding, candidateHeld, KeptOrPublished}
 use Rattle.laptop.specs.Owner.{asksNext, decideNext, decideStartOver, decideDrop, decideEnter, decideExit}
 use Rattle.laptop.specs.State.{Memory, memory, withPages, counted}

@@ -8,13 +8,12 @@ use lib.Dec.{eqb}
 use lib.ListN.{length, getD, take}
 use Rattle.messages.specs.Requests.{identityCommand, svidsCommand, modesCommand, enterCommand}
 use Rattle.messages.specs.Table.{pdSid}
-use Rattle.messages.specs.declared.request.Request.{Request}
 use Rattle.pages.specs.Lists.{mostSvids, soundList}
 use Rattle.laptop.specs.Answers.{mostPages}
 use Rattle.laptop.specs.Catalogue.{modesEach, runWords}
 use Rattle.laptop.specs.Marks.{allPositions}
 use Rattle.laptop.specs.Owner.{anyEntered, discover, isAbsent}
-use Rattle.laptop.specs.State.{Memory, gatheredList, identityRequest}
+use Rattle.laptop.specs.State.{Memory, identityRequest}
 use Rattle.laptop.specs.declared.Candidate.{Candidate}
 use Rattle.laptop.specs.declared.Candidate.the-variants.{Absent, Open, Done}
 use Rattle.laptop.specs.declared.Held.{Held}
@@ -47,19 +46,19 @@ HeldFits Held·Nothing svids modes = Unit
 HeldFits (Held·Catalogue size) svids modes = Listed size (size .count) svids modes
 
 -- the list is open only under 200 pages; when it is done, modes are missing
-abbrev pub CandidateFits : Candidate → Laptop → Memory → Type 0
-CandidateFits Absent l m = Unit
-CandidateFits Open l m = Listed (l .gathered) 0 (m .svids) (m .modes) × (l .pages < mostPages) × (l .filled ≡ 0)
-CandidateFits Done l m = Listed (l .gathered) (l .filled) (m .svids) (m .modes) × (l .filled < l .gathered .count)
+abbrev pub CandidateFits : Candidate → Size → ℕ → ℕ → List ℕ → List ℕ → Type 0
+CandidateFits Absent size pages filled svids modes = Unit
+CandidateFits Open size pages filled svids modes = Listed size 0 svids modes × (pages < mostPages) × (filled ≡ 0)
+CandidateFits Done size pages filled svids modes = Listed size filled svids modes × (filled < size .count)
 
 -- what is awaited fits the candidate; the pages are counted from the sending of Identity on
-abbrev pub WaitFits : Wait → Laptop → Memory → Type 0
-WaitFits Nothing l m = Unit
-WaitFits (Answer r) l m =
-    ((r ≡ identityRequest) × (l .candidate ≡ Absent) × (l .pages ≡ 0)) ⊎
-    (((r ≡ discover pdSid svidsCommand) × (l .candidate ≡ Open)) ⊎
-    (((r ≡ discover (getD (m .svids) (l .filled) 0) modesCommand) × (l .candidate ≡ Done)) ⊎
-    ((enterCommand ≤ r .command) × (l .candidate ≡ Absent))))
+abbrev pub WaitFits : Wait → Candidate → ℕ → ℕ → List ℕ → Type 0
+WaitFits Nothing candidate pages filled svids = Unit
+WaitFits (Answer r) candidate pages filled svids =
+    ((r ≡ identityRequest) × (candidate ≡ Absent) × (pages ≡ 0)) ⊎
+    (((r ≡ discover pdSid svidsCommand) × (candidate ≡ Open)) ⊎
+    (((r ≡ discover (getD svids filled 0) modesCommand) × (candidate ≡ Done)) ⊎
+    ((enterCommand ≤ r .command) × (candidate ≡ Absent))))
 
 -- a candidate is gathered, or Identity is awaited
 abbrev pub awaitsIdentity : Wait → Bool
@@ -72,8 +71,8 @@ isAsking l = not (isAbsent (l .candidate)) || awaitsIdentity (l .wait)
 pub record WellFormed (l : Laptop) (m : Memory) : Type 0 where
   pub lent : Lent m
   pub held-fits : HeldFits (l .held) (m .heldSvids) (m .heldModes)
-  pub candidate-fits : CandidateFits (l .candidate) l m
-  pub wait-fits : WaitFits (l .wait) l m
+  pub candidate-fits : CandidateFits (l .candidate) (l .gathered) (l .pages) (l .filled) (m .svids) (m .modes)
+  pub wait-fits : WaitFits (l .wait) (l .candidate) (l .pages) (l .filled) (m .svids)
   -- meanwhile no mode is entered
   pub none-entered : isAsking l ≡ true → anyEntered (m .entered) ≡ false
   -- each set has six bits

@@ -1,6 +1,6 @@
 -- What reading and writing keep, for whoever stands above: the laws that the promises of `read` and `write` give, by name.
 use mathlib.Core.Logic.{_↔_}
-use mathlib.Core.Path.{_≡_, refl, ap, sym, _∙_}
+use mathlib.Core.Path.{_≡_, refl, ap, ap₂, sym, _∙_}
 use mathlib.Core.Bool.{Bool, true, false, cond, not, false≢true}
 use mathlib.Core.List.{List, [], _++_, append-nil}
 use Prim.Native.Nat.{ℕ, _+_, _/_, _<_, _≤_}
@@ -22,7 +22,7 @@ use Rattle.messages.specs.declared.Head.{Head}
 use Rattle.messages.specs.declared.Reading.{Reading}
 use Rattle.messages.proofs.Refusals.{read-refused, outcome-refused}
 use Rattle.messages.proofs.RoundTrip.{read-bytes, bytes-read, accepted-shape, accepted-fits, message-bytes}
-use Rattle.messages.proofs.Rule.{shape-allowed, shape-count, pair-has}
+use Rattle.messages.proofs.Rule.{shape-allowed, shape-least, shape-count, pair-has}
 use Rattle.messages.proofs.Stores.{write-whole}
 
 -- writing is refused 5 exactly for a wrong shape, 11 exactly for a short buffer under a good one, and by no other number
@@ -83,6 +83,23 @@ read-shape b m e = accepted-shape b m e
 pub read-count : (b : List ℕ) (m : Message) → readOutcome b ≡ accepted m → length (m .objects) ≤ 6
 unfolding wellShaped
 read-count b m e = omega (arith, shape-count (m .head) (length (m .objects) + 1) (accepted-shape b m e) .1)
+
+-- an Identity ACK has three objects or more behind the header, a Modes ACK one or more
+ack-least : (m : Message) (command : ℕ) → wellShaped m ≡ true → m .head .command ≡ command → m .head .kind ≡ 1 →
+    countsOf (rowOf command) 1 / 16 ≤ length (m .objects) + 1
+unfolding wellShaped
+ack-least m command good ec ek =
+    let least = shape-least (m .head) (length (m .objects) + 1) good in
+    let row : countsOf (rowOf (m .head .command)) (m .head .kind) ≡ countsOf (rowOf command) 1 = ap₂ (λ (c k : ℕ). countsOf (rowOf c) k) ec ek in
+    omega (arith, least, row)
+
+pub identity-least : (m : Message) → wellShaped m ≡ true → m .head .command ≡ 1 → m .head .kind ≡ 1 → 3 ≤ length (m .objects)
+unfolding countsOf rowOf
+identity-least m good ec ek = omega (arith, ack-least m 1 good ec ek)
+
+pub modes-least : (m : Message) → wellShaped m ≡ true → m .head .command ≡ 3 → m .head .kind ≡ 1 → 1 ≤ length (m .objects)
+unfolding countsOf rowOf
+modes-least m good ec ek = omega (arith, ack-least m 3 good ec ek)
 
 pub read-fits : (b : List ℕ) (m : Message) → Below 256 b → readOutcome b ≡ accepted m → Representable m
 read-fits b m below e = accepted-fits b m below e

@@ -76,7 +76,7 @@ module _ (h : Head) (count : ℕ) (good : shape h count ≡ true) where
       hold-at (fitLines (rowOf (h .command)) h count)
       (and-right (ltb (h .kind) 4) _ (and-right (ltb (h .command) 32) _ good)) k
 
-  shape-least : countsOf (rowOf (h .command)) (h .kind) / 16 ≤ count
+  pub shape-least : countsOf (rowOf (h .command)) (h .kind) / 16 ≤ count
   shape-least = leb-true _ _ (line 0)
 
   shape-most : count ≤ countsOf (rowOf (h .command)) (h .kind) % 16

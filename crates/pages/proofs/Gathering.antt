@@ -34,7 +34,7 @@ repeat-again l v e =
     (sym (repeat-same (l ++ v) v (omega arith)) ∙ ap (λ (x : List ℕ). sameList x v) last ∙ same-self v))
 
 -- what a sound list says of its parts
-or-none : (a b : Bool) → (a || b) ≡ false → (a ≡ false) × (b ≡ false)
+pub or-none : (a b : Bool) → (a || b) ≡ false → (a ≡ false) × (b ≡ false)
 or-none true b e = absurd (false≢true (sym e))
 or-none false b e = (refl, e)
 
@@ -46,7 +46,7 @@ in-append s (x ∷ l) w e =
     let rest = in-append s l w (parts .1) in
     (rw (parts .0) (rest .0), rest .1)
 
-eqb-other : (x y : ℕ) → eqb x y ≡ false → eqb y x ≡ false
+pub eqb-other : (x y : ℕ) → eqb x y ≡ false → eqb y x ≡ false
 eqb-other x y e = ne-eqb y x (λ z. eqb-false x y e (sym z))
 
 new-cons : (s : ℕ) (l w : List ℕ) → isIn s w ≡ false → allNew l w ≡ true → allNew (s ∷ l) w ≡ true

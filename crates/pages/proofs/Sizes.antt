@@ -14,30 +14,30 @@ use Rattle.pages.specs.declared.taking.Verdict.{Verdict}
 use Rattle.pages.specs.declared.taking.Verdict.the-variants.{Bad, Repeat, More, Ends}
 use Rattle.pages.proofs.Judging.{adds-fits, before-most}
 
-abbrev isMore : Verdict → Bool
+abbrev pub isMore : Verdict → Bool
 isMore Bad = false
 isMore Repeat = false
 isMore More = true
 isMore (Ends k) = false
 
-abbrev endsWith : Verdict → ℕ
+abbrev pub endsWith : Verdict → ℕ
 endsWith Bad = 0
 endsWith Repeat = 0
 endsWith More = 0
 endsWith (Ends k) = k
 
-abbrev isEnds : Verdict → Bool
+abbrev pub isEnds : Verdict → Bool
 isEnds Bad = false
 isEnds Repeat = false
 isEnds More = false
 isEnds (Ends k) = true
 
-full-twelve : (v : List ℕ) → isFull v ≡ true → length v ≡ 12
+pub full-twelve : (v : List ℕ) → isFull v ≡ true → length v ≡ 12
 unfolding isFull
 full-twelve v e = eqb-true (length v) 12 (and-left (eqb (length v) 12) (eqb (before v) 12) e)
 
 module _ (l v : List ℕ) where
-  ending-not-more : isMore (endingVerdict l v) ≡ false
+  pub ending-not-more : isMore (endingVerdict l v) ≡ false
   unfolding endingVerdict
   ending-not-more = go (isEnding v && (not (nothing (length l) (before v)) && adds l (readOff v)))
     where

@@ -17,7 +17,9 @@ turned-requires : tie.Need-turned-requires
 turned-requires c κs = search needs
 
 returns : tie.Need-returns
-returns c = let e = mode-down (c .before .before .before .before .before .args .laptop) (c .before .before .before .before .before .args .kind) (c .before .before .before .before .before .args .request) (c .before .before .before .before .before .args .held-svids .now) (c .before .before .before .before .before .args .entered .now) (c .before .before .before .if1 .taken) in (c .turned .ensures ∙ ap₂ turnedTo (c .before .before .turned-down .ensures) (c .before .ended .ensures) ∙ e .0, e .1)
+returns c =
+    let a = c .before .before .before .before .before .args in
+    let e = mode-down (a .laptop) (a .kind) (a .request) (a .held-svids .now) (a .entered .now) (c .before .before .before .if1 .taken) in (c .turned .ensures ∙ ap₂ turnedTo (c .before .before .turned-down .ensures) (c .before .ended .ensures) ∙ e .0, e .1)
 
 held-list-requires : tie.Need-held-list-requires
 held-list-requires c κs = search needs
@@ -32,7 +34,9 @@ turned-requires-2 : tie.Need-turned-requires-2
 turned-requires-2 c κs = search needs
 
 returns-2 : tie.Need-returns-2
-returns-2 c = let e = mode-unmarked (c .before .before .before .before .before .before .before .before .args .laptop) (c .before .before .before .before .before .before .before .before .args .kind) (c .before .before .before .before .before .before .before .before .args .request) (c .before .before .before .before .before .before .before .before .args .held-svids .now) (c .before .before .before .before .before .before .before .before .args .entered .now) (c .before .before .before .before .before .before .if1 .left) _ _ (c .before .before .before .before .held-list .ensures) (c .before .before .before .place-of .ensures) (c .before .before .if2 .taken) in (c .turned2 .ensures ∙ ap (turnedTo Nothing) (c .before .ended2 .ensures) ∙ e .0, e .1)
+returns-2 c =
+    let a = c .before .before .before .before .before .before .before .before .args in
+    let e = mode-unmarked (a .laptop) (a .kind) (a .request) (a .held-svids .now) (a .entered .now) (c .before .before .before .before .before .before .if1 .left) _ _ (c .before .before .before .before .held-list .ensures) (c .before .before .before .place-of .ensures) (c .before .before .if2 .taken) in (c .turned2 .ensures ∙ ap (turnedTo Nothing) (c .before .ended2 .ensures) ∙ e .0, e .1)
 
 put-mark-requires : tie.Need-put-mark-requires
 put-mark-requires c κs = search needs
@@ -47,7 +51,9 @@ same-length : tie.Need-same-length
 same-length c = search needs
 
 returns-3 : tie.Need-returns-3
-returns-3 c = let e = mode-marked (c .before .before .before .before .before .before .before .before .before .before .before .before .args .laptop) (c .before .before .before .before .before .before .before .before .before .before .before .before .args .kind) (c .before .before .before .before .before .before .before .before .before .before .before .before .args .request) (c .before .before .before .before .before .before .before .before .before .before .before .before .args .held-svids .now) (c .before .before .before .before .before .before .before .before .before .before .before .before .args .entered .now) (c .before .before .before .before .before .before .before .before .before .before .if1 .left) _ _ (c .before .before .before .before .before .before .before .before .held-list .ensures) (c .before .before .before .before .before .before .before .place-of .ensures) (c .before .before .before .before .before .before .if2 .left) in (c .turned3 .ensures ∙ ap (turnedTo Nothing) (c .before .ended3 .ensures) ∙ e .0, c .before .before .before .before .put-mark .ensures ∙ e .1)
+returns-3 c =
+    let a = c .before .before .before .before .before .before .before .before .before .before .before .before .args in
+    let e = mode-marked (a .laptop) (a .kind) (a .request) (a .held-svids .now) (a .entered .now) (c .before .before .before .before .before .before .before .before .before .before .if1 .left) _ _ (c .before .before .before .before .before .before .before .before .held-list .ensures) (c .before .before .before .before .before .before .before .place-of .ensures) (c .before .before .before .before .before .before .if2 .left) in (c .turned3 .ensures ∙ ap (turnedTo Nothing) (c .before .ended3 .ensures) ∙ e .0, c .before .before .before .before .put-mark .ensures ∙ e .1)
 
 pub hear-mode-spec : {M : Type 1} → statement M
 hear-mode-spec =

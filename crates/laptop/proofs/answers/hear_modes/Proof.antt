@@ -14,7 +14,9 @@ turned-requires : tie.Need-turned-requires
 turned-requires c κs = search needs
 
 returns : tie.Need-returns
-returns c = let e = filling-parts _ _ (modes-busy (c .before .before .before .before .before .args .laptop) (c .before .before .before .before .before .args .kind) (c .before .before .before .before .before .args .words .now) (c .before .before .before .before .before .args .modes .now) (c .before .before .before .before .before .args .run .now) (c .before .before .if1 .taken)) in (c .turned .ensures ∙ ap (turnedTo Nothing) (c .before .ended .ensures) ∙ e .0, e .1, e .2)
+returns c =
+    let a = c .before .before .before .before .before .args in
+    let e = filling-parts _ _ (modes-busy (a .laptop) (a .kind) (a .words .now) (a .modes .now) (a .run .now) (c .before .before .if1 .taken)) in (c .turned .ensures ∙ ap (turnedTo Nothing) (c .before .ended .ensures) ∙ e .0, e .1, e .2)
 
 dropped-requires : tie.Need-dropped-requires
 dropped-requires c κs = search needs
@@ -23,7 +25,9 @@ refused-requires : tie.Need-refused-requires
 refused-requires c κs = search needs
 
 returns-2 : tie.Need-returns-2
-returns-2 c = let e = filling-parts _ _ (modes-void (c .before .before .before .before .before .before .args .laptop) (c .before .before .before .before .before .before .args .kind) (c .before .before .before .before .before .before .args .words .now) (c .before .before .before .before .before .before .args .modes .now) (c .before .before .before .before .before .before .args .run .now) (c .before .before .before .if1 .left) (c .before .before .if2 .taken)) in (c .refused .ensures ∙ ap (refusedBy 8) (c .before .dropped .ensures) ∙ e .0, e .1, e .2)
+returns-2 c =
+    let a = c .before .before .before .before .before .before .args in
+    let e = filling-parts _ _ (modes-void (a .laptop) (a .kind) (a .words .now) (a .modes .now) (a .run .now) (c .before .before .before .if1 .left) (c .before .before .if2 .taken)) in (c .refused .ensures ∙ ap (refusedBy 8) (c .before .dropped .ensures) ∙ e .0, e .1, e .2)
 
 cast-place : tie.Need-cast-place
 cast-place c = search needs
@@ -35,7 +39,9 @@ refused-requires-2 : tie.Need-refused-requires-2
 refused-requires-2 c κs = search needs
 
 returns-3 : tie.Need-returns-3
-returns-3 c = let e = filling-parts _ _ (modes-past (c .before .before .before .before .before .before .before .args .laptop) (c .before .before .before .before .before .before .before .args .kind) (c .before .before .before .before .before .before .before .args .words .now) (c .before .before .before .before .before .before .before .args .modes .now) (c .before .before .before .before .before .before .before .args .run .now) (c .before .before .before .before .if1 .left) (c .before .before .before .if2 .left) (c .before .before .if3 .taken)) in (c .refused2 .ensures ∙ ap (refusedBy 8) (c .before .dropped2 .ensures) ∙ e .0, e .1, e .2)
+returns-3 c =
+    let a = c .before .before .before .before .before .before .before .args in
+    let e = filling-parts _ _ (modes-past (a .laptop) (a .kind) (a .words .now) (a .modes .now) (a .run .now) (c .before .before .before .before .if1 .left) (c .before .before .before .if2 .left) (c .before .before .if3 .taken)) in (c .refused2 .ensures ∙ ap (refusedBy 8) (c .before .dropped2 .ensures) ∙ e .0, e .1, e .2)
 
 mul-put-words : tie.Need-mul-put-words
 mul-put-words c = search needs
@@ -62,7 +68,9 @@ same-length : tie.Need-same-length
 same-length c = search needs
 
 returns-4 : tie.Need-returns-4
-returns-4 c = let e = filling-parts _ _ (modes-stored (c .before .before .before .before .before .before .before .before .before .before .before .args .laptop) (c .before .before .before .before .before .before .before .before .before .before .before .args .kind) (c .before .before .before .before .before .before .before .before .before .before .before .args .words .now) (c .before .before .before .before .before .before .before .before .before .before .before .args .modes .now) (c .before .before .before .before .before .before .before .before .before .before .before .args .run .now) (c .before .before .before .before .before .before .before .before .if1 .left) (c .before .before .before .before .before .before .before .if2 .left) (c .before .before .before .before .before .before .if3 .left)) in (c .turned2 .ensures ∙ ap (turnedTo Nothing) (c .before .filled-to .ensures) ∙ e .0, e .1, c .before .before .before .before .put-words .ensures ∙ e .2)
+returns-4 c =
+    let a = c .before .before .before .before .before .before .before .before .before .before .before .args in
+    let e = filling-parts _ _ (modes-stored (a .laptop) (a .kind) (a .words .now) (a .modes .now) (a .run .now) (c .before .before .before .before .before .before .before .before .if1 .left) (c .before .before .before .before .before .before .before .if2 .left) (c .before .before .before .before .before .before .if3 .left)) in (c .turned2 .ensures ∙ ap (turnedTo Nothing) (c .before .filled-to .ensures) ∙ e .0, e .1, c .before .before .before .before .put-words .ensures ∙ e .2)
 
 pub hear-modes-spec : {M : Type 1} → statement M
 hear-modes-spec =

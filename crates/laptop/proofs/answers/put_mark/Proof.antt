@@ -5,7 +5,9 @@ use Rattle.laptop.proofs.answers.put_mark.Statement.{statement}
 use Rattle.laptop.proofs.answers.put_mark.Tie as tie
 
 returns : tie.Need-returns
-returns c = mark-past (c .before .before .args .entered .now) (c .before .before .args .place) (c .before .before .args .command) (c .before .before .args .position) (c .if1 .taken)
+returns c =
+    let a = c .before .before .args in
+    mark-past (a .entered .now) (a .place) (a .command) (a .position) (c .if1 .taken)
 
 slice-read-set : tie.Need-slice-read-set
 slice-read-set c = search needs
@@ -20,7 +22,9 @@ same-length : tie.Need-same-length
 same-length c = search needs
 
 returns-2 : tie.Need-returns-2
-returns-2 c = mark-entered (c .before .before .before .before .before .args .entered .now) (c .before .before .before .before .before .args .place) (c .before .before .before .before .before .args .command) (c .before .before .before .before .before .args .position) _ (c .before .if2 .taken) (c .marked .ensures)
+returns-2 c =
+    let a = c .before .before .before .before .before .args in
+    mark-entered (a .entered .now) (a .place) (a .command) (a .position) _ (c .before .if2 .taken) (c .marked .ensures)
 
 unmarked-requires : tie.Need-unmarked-requires
 unmarked-requires c κs = search needs
@@ -32,7 +36,9 @@ same-length-2 : tie.Need-same-length-2
 same-length-2 c = search needs
 
 returns-3 : tie.Need-returns-3
-returns-3 c = mark-exited (c .before .before .before .before .before .args .entered .now) (c .before .before .before .before .before .args .place) (c .before .before .before .before .before .args .command) (c .before .before .before .before .before .args .position) _ (c .before .if2 .left) (c .unmarked .ensures)
+returns-3 c =
+    let a = c .before .before .before .before .before .args in
+    mark-exited (a .entered .now) (a .place) (a .command) (a .position) _ (c .before .if2 .left) (c .unmarked .ensures)
 
 pub put-mark-spec : {M : Type 1} → statement M
 put-mark-spec =

@@ -31,7 +31,10 @@ mul-run-2 : tie.Need-mul-run-2 Inv-loop μ-loop
 mul-run-2 c = omega arith
 
 slice-write-run : tie.Need-slice-write-run Inv-loop μ-loop
-slice-write-run c = omega (arith, ap length (c .before .before .loop .inv .1), length-sets (c .before .before .before .args .run .now) (c .before .before .before .args .at) (take (c .before .before .loop .i) (c .before .before .before .args .words .now)))
+slice-write-run c =
+    let a = c .before .before .before .args in
+    let loop = c .before .before .loop in
+    omega (arith, ap length (loop .inv .1), length-sets (a .run .now) (a .at) (take (loop .i) (a .words .now)))
 
 add-i : tie.Need-add-i Inv-loop μ-loop
 add-i c = omega arith
@@ -40,13 +43,20 @@ loop-less : tie.Need-loop-less Inv-loop μ-loop
 loop-less c = omega arith
 
 loop-again : tie.Need-loop-again Inv-loop μ-loop
-loop-again c = (omega arith, ap (λ (l : List ℕ). set l (c .before .before .before .args .at + c .before .before .loop .i) (getD (c .before .before .before .args .words .now) (c .before .before .loop .i) 0)) (c .before .before .loop .inv .1) ∙ sets-next (c .before .before .before .args .run .now) (c .before .before .before .args .at) (c .before .before .loop .i) (c .before .before .before .args .words .now) 0 (c .before .loop-test .taken))
+loop-again c =
+    let a = c .before .before .before .args in
+    let loop = c .before .before .loop in
+    (omega arith, ap (λ (l : List ℕ). set l (a .at + loop .i) (getD (a .words .now) (loop .i) 0)) (loop .inv .1) ∙ sets-next (a .run .now) (a .at) (loop .i) (a .words .now) 0 (c .before .loop-test .taken))
 
 same-length : tie.Need-same-length Inv-loop μ-loop
-same-length c = ap length (c .before .loop .inv .1) ∙ length-sets (c .before .before .args .run .now) (c .before .before .args .at) (take (c .before .loop .i) (c .before .before .args .words .now))
+same-length c =
+    let a = c .before .before .args in
+    ap length (c .before .loop .inv .1) ∙ length-sets (a .run .now) (a .at) (take (c .before .loop .i) (a .words .now))
 
 returns : tie.Need-returns Inv-loop μ-loop
-returns c = c .before .loop .inv .1 ∙ ap (sets (c .before .before .args .run .now) (c .before .before .args .at)) (take-all (c .before .loop .i) (c .before .before .args .words .now) (c .loop-test .left))
+returns c =
+    let a = c .before .before .args in
+    c .before .loop .inv .1 ∙ ap (sets (a .run .now) (a .at)) (take-all (c .before .loop .i) (a .words .now) (c .loop-test .left))
 
 pub put-words-spec : {M : Type 1} → statement M
 put-words-spec =

@@ -14,7 +14,9 @@ turned-requires : tie.Need-turned-requires
 turned-requires c κs = search needs
 
 returns : tie.Need-returns
-returns c = let e = identity-other (c .before .before .before .args .laptop) (c .before .before .before .args .kind) (c .before .before .before .args .count) (c .before .before .before .args .objects .now) (c .before .before .before .args .svids .now) (c .before .before .before .args .identity .now) (c .before .before .if1 .taken) in (c .turned .ensures ∙ ap (turnedTo Nothing) (c .before .dropped .ensures) ∙ e .0, e .1, e .2)
+returns c =
+    let a = c .before .before .before .args in
+    let e = identity-other (a .laptop) (a .kind) (a .count) (a .objects .now) (a .svids .now) (a .identity .now) (c .before .before .if1 .taken) in (c .turned .ensures ∙ ap (turnedTo Nothing) (c .before .dropped .ensures) ∙ e .0, e .1, e .2)
 
 opened-requires : tie.Need-opened-requires
 opened-requires c κs = search needs
@@ -23,7 +25,9 @@ turned-requires-2 : tie.Need-turned-requires-2
 turned-requires-2 c κs = search needs
 
 returns-2 : tie.Need-returns-2
-returns-2 c = let e = identity-ack (c .before .before .before .before .before .args .laptop) (c .before .before .before .before .before .args .kind) (c .before .before .before .before .before .args .count) (c .before .before .before .before .before .args .objects .now) (c .before .before .before .before .before .args .svids .now) (c .before .before .before .before .before .args .identity .now) (c .before .before .before .before .if1 .left) in (c .turned2 .ensures ∙ ap (turnedTo Nothing) (c .before .opened .ensures) ∙ e .0, e .1, e .2)
+returns-2 c =
+    let a = c .before .before .before .before .before .args in
+    let e = identity-ack (a .laptop) (a .kind) (a .count) (a .objects .now) (a .svids .now) (a .identity .now) (c .before .before .before .before .if1 .left) in (c .turned2 .ensures ∙ ap (turnedTo Nothing) (c .before .opened .ensures) ∙ e .0, e .1, e .2)
 
 pub hear-identity-spec : {M : Type 1} → statement M
 hear-identity-spec =

@@ -28,7 +28,9 @@ take-page-requires : tie.Need-take-page-requires
 take-page-requires c κs = search needs
 
 returns : tie.Need-returns
-returns c = svids-page (c .before .before .before .before .before .before .before .before .args .laptop) (c .before .before .before .before .before .before .before .before .args .kind) _ (c .before .before .before .before .before .before .before .before .args .svids .now) (c .before .before .before .before .before .before .before .if1 .taken) _ _ _ _ (c .before .before .before .before .counted .ensures) (c .before .before .first-svids .ensures ∙ ap (take (c .before .before .before .before .before .before .before .before .args .count * 2)) (c .before .before .before .before .before .values-of .ensures)) (c .take-page .ensures .0) (c .take-page .ensures .1)
+returns c =
+    let a = c .before .before .before .before .before .before .before .before .args in
+    svids-page (a .laptop) (a .kind) _ (a .svids .now) (c .before .before .before .before .before .before .before .if1 .taken) _ _ _ _ (c .before .before .before .before .counted .ensures) (c .before .before .first-svids .ensures ∙ ap (take (a .count * 2)) (c .before .before .before .before .before .values-of .ensures)) (c .take-page .ensures .0) (c .take-page .ensures .1)
 
 ended-requires : tie.Need-ended-requires
 ended-requires c κs = search needs
@@ -37,7 +39,9 @@ turned-requires : tie.Need-turned-requires
 turned-requires c κs = search needs
 
 returns-2 : tie.Need-returns-2
-returns-2 c = let e = parts _ _ (svids-busy (c .before .before .before .before .args .laptop) (c .before .before .before .before .args .kind) _ (c .before .before .before .before .args .svids .now) (c .before .before .if2 .taken)) in (c .turned .ensures ∙ ap (turnedTo Nothing) (c .before .ended .ensures) ∙ e .0, e .1)
+returns-2 c =
+    let a = c .before .before .before .before .args in
+    let e = parts _ _ (svids-busy (a .laptop) (a .kind) _ (a .svids .now) (c .before .before .if2 .taken)) in (c .turned .ensures ∙ ap (turnedTo Nothing) (c .before .ended .ensures) ∙ e .0, e .1)
 
 gathered-to-requires : tie.Need-gathered-to-requires
 gathered-to-requires c κs = search needs
@@ -46,7 +50,9 @@ turned-requires-2 : tie.Need-turned-requires-2
 turned-requires-2 c κs = search needs
 
 returns-3 : tie.Need-returns-3
-returns-3 c = let e = parts _ _ (svids-empty (c .before .before .before .before .before .before .args .laptop) (c .before .before .before .before .before .before .args .kind) _ (c .before .before .before .before .before .before .args .svids .now) (c .before .before .before .before .before .if1 .left) (c .before .before .before .before .if2 .left) (c .before .before .if3 .taken)) in (c .turned2 .ensures ∙ ap (turnedTo Nothing) (c .before .gathered-to .ensures) ∙ e .0, e .1)
+returns-3 c =
+    let a = c .before .before .before .before .before .before .args in
+    let e = parts _ _ (svids-empty (a .laptop) (a .kind) _ (a .svids .now) (c .before .before .before .before .before .if1 .left) (c .before .before .before .before .if2 .left) (c .before .before .if3 .taken)) in (c .turned2 .ensures ∙ ap (turnedTo Nothing) (c .before .gathered-to .ensures) ∙ e .0, e .1)
 
 dropped-requires : tie.Need-dropped-requires
 dropped-requires c κs = search needs
@@ -55,7 +61,9 @@ refused-requires : tie.Need-refused-requires
 refused-requires c κs = search needs
 
 returns-4 : tie.Need-returns-4
-returns-4 c = let e = parts _ _ (svids-void (c .before .before .before .before .before .before .args .laptop) (c .before .before .before .before .before .before .args .kind) _ (c .before .before .before .before .before .before .args .svids .now) (c .before .before .before .before .before .if1 .left) (c .before .before .before .before .if2 .left) (c .before .before .if3 .left)) in (c .refused .ensures ∙ ap (refusedBy 8) (c .before .dropped .ensures) ∙ e .0, e .1)
+returns-4 c =
+    let a = c .before .before .before .before .before .before .args in
+    let e = parts _ _ (svids-void (a .laptop) (a .kind) _ (a .svids .now) (c .before .before .before .before .before .if1 .left) (c .before .before .before .before .if2 .left) (c .before .before .if3 .left)) in (c .refused .ensures ∙ ap (refusedBy 8) (c .before .dropped .ensures) ∙ e .0, e .1)
 
 pub hear-svids-spec : {M : Type 1} → statement M
 hear-svids-spec =

@@ -40,10 +40,15 @@ loop-less : tie.Need-loop-less Inv-loop μ-loop
 loop-less c = omega arith
 
 loop-again : tie.Need-loop-again Inv-loop μ-loop
-loop-again c = (omega arith, ap (λ (l : List ℕ). set l (c .before .before .before .args .n + c .before .before .loop .i) (getD (c .before .before .before .args .values .now) (c .before .before .loop .i) 0)) (c .before .before .loop .inv .1) ∙ sets-next (c .before .before .before .args .svids .now) (c .before .before .before .args .n) (c .before .before .loop .i) (c .before .before .before .args .values .now) 0 (c .before .loop-test .taken))
+loop-again c =
+    let a = c .before .before .before .args in
+    let loop = c .before .before .loop in
+    (omega arith, ap (λ (l : List ℕ). set l (a .n + loop .i) (getD (a .values .now) (loop .i) 0)) (loop .inv .1) ∙ sets-next (a .svids .now) (a .n) (loop .i) (a .values .now) 0 (c .before .loop-test .taken))
 
 returns : tie.Need-returns Inv-loop μ-loop
-returns c = c .before .loop .inv .1 ∙ ap (sets (c .before .before .args .svids .now) (c .before .before .args .n)) (take-all (c .before .loop .i) (c .before .before .args .values .now) (c .loop-test .left))
+returns c =
+    let a = c .before .before .args in
+    c .before .loop .inv .1 ∙ ap (sets (a .svids .now) (a .n)) (take-all (c .before .loop .i) (a .values .now) (c .loop-test .left))
 
 pub put-values-spec : {M : Type 1} → statement M
 put-values-spec =

@@ -39,7 +39,9 @@ refused-requires-2 : tie.Need-refused-requires-2
 refused-requires-2 c κs = search needs
 
 returns : tie.Need-returns
-returns c = let e = parts _ _ (take-repeat-last (c .before .before .before .before .before .before .before .before .before .before .before .before .args .laptop) (c .before .before .before .before .before .before .before .before .before .before .before .before .args .svids .now) (c .before .before .before .before .before .before .before .before .before .before .before .before .args .values .now) _ (c .before .before .before .before .before .before .before .first-svids .ensures) _ (c .before .before .before .before .before .before .judge .ensures) (c .before .before .before .before .enum-told2 .given .1) (c .before .before .if1 .taken)) in (c .refused2 .ensures ∙ ap (refusedBy 14) (c .before .dropped2 .ensures) ∙ e .0, e .1)
+returns c =
+    let a = c .before .before .before .before .before .before .before .before .before .before .before .before .args in
+    let e = parts _ _ (take-repeat-last (a .laptop) (a .svids .now) (a .values .now) _ (c .before .before .before .before .before .before .before .first-svids .ensures) _ (c .before .before .before .before .before .before .judge .ensures) (c .before .before .before .before .enum-told2 .given .1) (c .before .before .if1 .taken)) in (c .refused2 .ensures ∙ ap (refusedBy 14) (c .before .dropped2 .ensures) ∙ e .0, e .1)
 
 ended-requires : tie.Need-ended-requires
 ended-requires c κs = search needs
@@ -57,7 +59,9 @@ refused-requires-3 : tie.Need-refused-requires-3
 refused-requires-3 c κs = search needs
 
 returns-2 : tie.Need-returns-2
-returns-2 c = let e = parts _ _ (take-full-last (c .before .before .before .before .before .before .before .before .before .before .before .before .args .laptop) (c .before .before .before .before .before .before .before .before .before .before .before .before .args .svids .now) (c .before .before .before .before .before .before .before .before .before .before .before .before .args .values .now) _ (c .before .before .before .before .before .before .before .first-svids .ensures) _ (c .before .before .before .before .before .before .judge .ensures) (c .before .before .before .before .enum-told3 .given .1) (c .before .before .if2 .taken)) in (c .refused3 .ensures ∙ ap (refusedBy 14) (c .before .dropped3 .ensures) ∙ e .0, e .1)
+returns-2 c =
+    let a = c .before .before .before .before .before .before .before .before .before .before .before .before .args in
+    let e = parts _ _ (take-full-last (a .laptop) (a .svids .now) (a .values .now) _ (c .before .before .before .before .before .before .before .first-svids .ensures) _ (c .before .before .before .before .before .before .judge .ensures) (c .before .before .before .before .enum-told3 .given .1) (c .before .before .if2 .taken)) in (c .refused3 .ensures ∙ ap (refusedBy 14) (c .before .dropped3 .ensures) ∙ e .0, e .1)
 
 put-values-requires : tie.Need-put-values-requires
 put-values-requires c κs = more-fits _ (c .before .before .before .before .before .before .before .before .before .before .before .args .values .now) (sym (c .before .before .before .before .before .judge .ensures) ∙ c .before .before .before .enum-told3 .given .1) .1
@@ -84,7 +88,9 @@ first-svids-requires-2 : tie.Need-first-svids-requires-2
 first-svids-requires-2 c κs = search needs
 
 put-values-requires-2 : tie.Need-put-values-requires-2
-put-values-requires-2 c κs = let e = ends-fits _ (c .before .before .before .before .before .before .before .before .before .before .before .args .values .now) _ (sym (c .before .before .before .before .before .judge .ensures) ∙ c .before .before .before .k .given .1) in omega (arith, e .1, ap length (c .first-svids2 .ensures) ∙ length-take-le _ (c .before .before .before .before .before .before .before .before .before .before .before .args .values .now) (e .0))
+put-values-requires-2 c κs =
+    let a = c .before .before .before .before .before .before .before .before .before .before .before .args in
+    let e = ends-fits _ (a .values .now) _ (sym (c .before .before .before .before .before .judge .ensures) ∙ c .before .before .before .k .given .1) in omega (arith, e .1, ap length (c .first-svids2 .ensures) ∙ length-take-le _ (a .values .now) (e .0))
 
 cast-gathered-to-2 : tie.Need-cast-gathered-to-2
 cast-gathered-to-2 c = let e = ends-fits _ (c .before .before .before .before .before .before .before .before .before .before .before .before .args .values .now) _ (sym (c .before .before .before .before .before .before .judge .ensures) ∙ c .before .before .before .before .k .given .1) in omega (arith, e .1)
@@ -99,16 +105,25 @@ turned-requires-3 : tie.Need-turned-requires-3
 turned-requires-3 c κs = search needs
 
 returns-3 : tie.Need-returns-3
-returns-3 c = let e = parts _ _ (take-bad (c .before .before .before .before .before .before .before .before .before .before .args .laptop) (c .before .before .before .before .before .before .before .before .before .before .args .svids .now) (c .before .before .before .before .before .before .before .before .before .before .args .values .now) _ (c .before .before .before .before .before .first-svids .ensures) _ (c .before .before .before .before .judge .ensures) (c .before .before .enum-told .given .1)) in (c .refused .ensures ∙ ap (refusedBy 8) (c .before .dropped .ensures) ∙ e .0, e .1)
+returns-3 c =
+    let a = c .before .before .before .before .before .before .before .before .before .before .args in
+    let e = parts _ _ (take-bad (a .laptop) (a .svids .now) (a .values .now) _ (c .before .before .before .before .before .first-svids .ensures) _ (c .before .before .before .before .judge .ensures) (c .before .before .enum-told .given .1)) in (c .refused .ensures ∙ ap (refusedBy 8) (c .before .dropped .ensures) ∙ e .0, e .1)
 
 returns-4 : tie.Need-returns-4
-returns-4 c = let e = parts _ _ (take-repeat (c .before .before .before .before .before .before .before .before .before .before .before .before .args .laptop) (c .before .before .before .before .before .before .before .before .before .before .before .before .args .svids .now) (c .before .before .before .before .before .before .before .before .before .before .before .before .args .values .now) _ (c .before .before .before .before .before .before .before .first-svids .ensures) _ (c .before .before .before .before .before .before .judge .ensures) (c .before .before .before .before .enum-told2 .given .1) (c .before .before .if1 .left)) in (c .turned .ensures ∙ ap (turnedTo Nothing) (c .before .ended .ensures) ∙ e .0, e .1)
+returns-4 c =
+    let a = c .before .before .before .before .before .before .before .before .before .before .before .before .args in
+    let e = parts _ _ (take-repeat (a .laptop) (a .svids .now) (a .values .now) _ (c .before .before .before .before .before .before .before .first-svids .ensures) _ (c .before .before .before .before .before .before .judge .ensures) (c .before .before .before .before .enum-told2 .given .1) (c .before .before .if1 .left)) in (c .turned .ensures ∙ ap (turnedTo Nothing) (c .before .ended .ensures) ∙ e .0, e .1)
 
 returns-5 : tie.Need-returns-5
-returns-5 c = let e = parts _ _ (take-full (c .before .before .before .before .before .before .before .before .before .before .before .before .before .before .args .laptop) (c .before .before .before .before .before .before .before .before .before .before .before .before .before .before .args .svids .now) (c .before .before .before .before .before .before .before .before .before .before .before .before .before .before .args .values .now) _ (c .before .before .before .before .before .before .before .before .before .first-svids .ensures) _ (c .before .before .before .before .before .before .before .before .judge .ensures) (c .before .before .before .before .before .before .enum-told3 .given .1) (c .before .before .before .before .if2 .left)) in (c .turned2 .ensures ∙ ap (turnedTo Nothing) (c .before .gathered-to .ensures) ∙ e .0, c .before .before .put-values .ensures ∙ e .1)
+returns-5 c =
+    let a = c .before .before .before .before .before .before .before .before .before .before .before .before .before .before .args in
+    let e = parts _ _ (take-full (a .laptop) (a .svids .now) (a .values .now) _ (c .before .before .before .before .before .before .before .before .before .first-svids .ensures) _ (c .before .before .before .before .before .before .before .before .judge .ensures) (c .before .before .before .before .before .before .enum-told3 .given .1) (c .before .before .before .before .if2 .left)) in (c .turned2 .ensures ∙ ap (turnedTo Nothing) (c .before .gathered-to .ensures) ∙ e .0, c .before .before .put-values .ensures ∙ e .1)
 
 returns-6 : tie.Need-returns-6
-returns-6 c = let e = parts _ _ (take-ending (c .before .before .before .before .before .before .before .before .before .before .before .before .before .before .args .laptop) (c .before .before .before .before .before .before .before .before .before .before .before .before .before .before .args .svids .now) (c .before .before .before .before .before .before .before .before .before .before .before .before .before .before .args .values .now) _ (c .before .before .before .before .before .before .before .before .before .first-svids .ensures) _ (c .before .before .before .before .before .before .before .before .judge .ensures) _ (c .before .before .before .before .before .before .k .given .1)) in (c .turned3 .ensures ∙ ap (turnedTo Nothing) (c .before .gathered-to2 .ensures) ∙ e .0, c .before .before .put-values2 .ensures ∙ ap (sets (c .before .before .before .before .before .before .before .before .before .before .before .before .before .before .args .svids .now) (length (c .before .before .before .before .before .before .before .before .before .first-svids .result .now))) (c .before .before .before .first-svids2 .ensures) ∙ e .1)
+returns-6 c =
+    let a = c .before .before .before .before .before .before .before .before .before .before .before .before .before .before .args in
+    let first-svids = c .before .before .before .before .before .before .before .before .before .first-svids in
+    let e = parts _ _ (take-ending (a .laptop) (a .svids .now) (a .values .now) _ (first-svids .ensures) _ (c .before .before .before .before .before .before .before .before .judge .ensures) _ (c .before .before .before .before .before .before .k .given .1)) in (c .turned3 .ensures ∙ ap (turnedTo Nothing) (c .before .gathered-to2 .ensures) ∙ e .0, c .before .before .put-values2 .ensures ∙ ap (sets (a .svids .now) (length (first-svids .result .now))) (c .before .before .before .first-svids2 .ensures) ∙ e .1)
 
 pub take-page-spec : {M : Type 1} → statement M
 take-page-spec =

@@ -23,7 +23,9 @@ same-request-requires : tie.Need-same-request-requires
 same-request-requires c κs = search needs
 
 returns-2 : tie.Need-returns-2
-returns-2 c = c .same-request .ensures ∙ ap (sameRequest _) (c .before .request-of .ensures) ∙ fits-answer (c .before .before .before .before .before .args .wait) _ (c .before .before .before .before .before .args .head) (c .before .before .before .wait .given .1)
+returns-2 c =
+    let a = c .before .before .before .before .before .args in
+    c .same-request .ensures ∙ ap (sameRequest _) (c .before .request-of .ensures) ∙ fits-answer (a .wait) _ (a .head) (c .before .before .before .wait .given .1)
 
 pub fits-spec : {M : Type 1} → statement M
 fits-spec =

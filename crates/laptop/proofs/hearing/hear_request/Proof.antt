@@ -15,13 +15,17 @@ turned-requires : tie.Need-turned-requires
 turned-requires c κs = search needs
 
 returns : tie.Need-returns
-returns c = c .turned .ensures ∙ ap (λ (n : Notice). turnedTo (Attention n) (c .before .before .before .before .args .laptop)) (c .before .notice-of .ensures) ∙ request-attention (c .before .before .before .before .args .laptop) (c .before .before .before .before .args .head) (c .before .before .before .before .args .count) (c .before .before .before .before .args .object) (c .before .before .if1 .taken)
+returns c =
+    let a = c .before .before .before .before .args in
+    c .turned .ensures ∙ ap (λ (n : Notice). turnedTo (Attention n) (a .laptop)) (c .before .notice-of .ensures) ∙ request-attention (a .laptop) (a .head) (a .count) (a .object) (c .before .before .if1 .taken)
 
 refused-requires : tie.Need-refused-requires
 refused-requires c κs = search needs
 
 returns-2 : tie.Need-returns-2
-returns-2 c = c .refused .ensures ∙ request-other (c .before .before .before .args .laptop) (c .before .before .before .args .head) (c .before .before .before .args .count) (c .before .before .before .args .object) (c .before .if1 .left)
+returns-2 c =
+    let a = c .before .before .before .args in
+    c .refused .ensures ∙ request-other (a .laptop) (a .head) (a .count) (a .object) (c .before .if1 .left)
 
 pub hear-request-spec : {M : Type 1} → statement M
 hear-request-spec =

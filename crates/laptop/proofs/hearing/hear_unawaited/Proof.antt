@@ -16,13 +16,17 @@ refused-requires : tie.Need-refused-requires
 refused-requires c κs = search needs
 
 returns : tie.Need-returns
-returns c = c .refused .ensures ∙ ap (refusedBy 6) (c .before .dropped .ensures) ∙ unawaited-page (c .before .before .before .before .args .laptop) (c .before .before .before .before .args .head) (sym (c .before .before .before .is-late-page .ensures) ∙ c .before .before .if1 .taken)
+returns c =
+    let a = c .before .before .before .before .args in
+    c .refused .ensures ∙ ap (refusedBy 6) (c .before .dropped .ensures) ∙ unawaited-page (a .laptop) (a .head) (sym (c .before .before .before .is-late-page .ensures) ∙ c .before .before .if1 .taken)
 
 refused-requires-2 : tie.Need-refused-requires-2
 refused-requires-2 c κs = search needs
 
 returns-2 : tie.Need-returns-2
-returns-2 c = c .refused2 .ensures ∙ unawaited-other (c .before .before .before .args .laptop) (c .before .before .before .args .head) (sym (c .before .before .is-late-page .ensures) ∙ c .before .if1 .left)
+returns-2 c =
+    let a = c .before .before .before .args in
+    c .refused2 .ensures ∙ unawaited-other (a .laptop) (a .head) (sym (c .before .before .is-late-page .ensures) ∙ c .before .if1 .left)
 
 pub hear-unawaited-spec : {M : Type 1} → statement M
 hear-unawaited-spec =

@@ -20,10 +20,14 @@ returns-2 : tie.Need-returns-2
 returns-2 c = late-not-open (c .before .before .before .args .laptop) (c .before .before .before .args .head) (c .before .enum-told .given .1) (c .match2 .keys2)
 
 returns-3 : tie.Need-returns-3
-returns-3 c = late-command (c .before .before .before .before .before .before .args .laptop) (c .before .before .before .before .before .before .args .head) (c .before .before .before .before .enum-told .given .1) (c .before .before .enum-told3 .given .1) (c .if1 .taken)
+returns-3 c =
+    let a = c .before .before .before .before .before .before .args in
+    late-command (a .laptop) (a .head) (c .before .before .before .before .enum-told .given .1) (c .before .before .enum-told3 .given .1) (c .if1 .taken)
 
 returns-4 : tie.Need-returns-4
-returns-4 c = late-kind (c .before .before .before .before .before .before .before .args .laptop) (c .before .before .before .before .before .before .before .args .head) (c .before .before .before .before .before .enum-told .given .1) (c .before .before .before .enum-told3 .given .1) (c .before .if1 .left)
+returns-4 c =
+    let a = c .before .before .before .before .before .before .before .args in
+    late-kind (a .laptop) (a .head) (c .before .before .before .before .before .enum-told .given .1) (c .before .before .before .enum-told3 .given .1) (c .before .if1 .left)
 
 pub is-late-page-spec : {M : Type 1} → statement M
 is-late-page-spec =

@@ -32,7 +32,9 @@ same-length-2 : tie.Need-same-length-2
 same-length-2 c = search needs
 
 returns : tie.Need-returns
-returns c = let e = results _ _ (heard-short (c .before .before .before .before .before .before .before .before .args .laptop) (memory (c .before .before .before .before .before .before .before .before .args .svids .now) (c .before .before .before .before .before .before .before .before .args .modes .now) (c .before .before .before .before .before .before .before .before .args .identity .now) (c .before .before .before .before .before .before .before .before .args .run .now) (c .before .before .before .before .before .before .before .before .args .held-svids .now) (c .before .before .before .before .before .before .before .before .args .held-modes .now) (c .before .before .before .before .before .before .before .before .args .held-identity .now) (c .before .before .before .before .before .before .before .before .args .held-run .now) (c .before .before .before .before .before .before .before .before .args .entered .now)) (readOutcome (c .before .before .before .before .before .before .before .before .args .bytes .now)) (sym (c .before .before .short-runs .ensures) ∙ c .before .if1 .taken)) in (c .refused .ensures ∙ e .0, e .1)
+returns c =
+    let a = c .before .before .before .before .before .before .before .before .args in
+    let e = results _ _ (heard-short (a .laptop) (memory (a .svids .now) (a .modes .now) (a .identity .now) (a .run .now) (a .held-svids .now) (a .held-modes .now) (a .held-identity .now) (a .held-run .now) (a .entered .now)) (readOutcome (a .bytes .now)) (sym (c .before .before .short-runs .ensures) ∙ c .before .if1 .taken)) in (c .refused .ensures ∙ e .0, e .1)
 
 read-requires : tie.Need-read-requires
 read-requires c κs = search needs
@@ -56,7 +58,11 @@ same-length-4 : tie.Need-same-length-4
 same-length-4 c = search needs
 
 returns-2 : tie.Need-returns-2
-returns-2 c = let is = answer-refused (readOutcome (c .before .before .before .before .before .before .before .before .before .before .before .before .args .bytes .now)) (c .before .before .before .before .read .result) _ (c .before .before .before .before .read .ensures) (c .before .before .enum-told .given .1) in let e = results _ _ (heard-refused (c .before .before .before .before .before .before .before .before .before .before .before .before .args .laptop) (memory (c .before .before .before .before .before .before .before .before .before .before .before .before .args .svids .now) (c .before .before .before .before .before .before .before .before .before .before .before .before .args .modes .now) (c .before .before .before .before .before .before .before .before .before .before .before .before .args .identity .now) (c .before .before .before .before .before .before .before .before .before .before .before .before .args .run .now) (c .before .before .before .before .before .before .before .before .before .before .before .before .args .held-svids .now) (c .before .before .before .before .before .before .before .before .before .before .before .before .args .held-modes .now) (c .before .before .before .before .before .before .before .before .before .before .before .before .args .held-identity .now) (c .before .before .before .before .before .before .before .before .before .before .before .before .args .held-run .now) (c .before .before .before .before .before .before .before .before .before .before .before .before .args .entered .now)) (sym (c .before .before .before .before .before .before .short-runs .ensures) ∙ c .before .before .before .before .before .if1 .left) (readOutcome (c .before .before .before .before .before .before .before .before .before .before .before .before .args .bytes .now)) _ is) in (c .refused2 .ensures ∙ ap (λ (k : ℕ). refusedBy k (c .before .before .before .before .before .before .before .before .before .before .before .before .args .laptop)) (c .before .number .ensures ∙ ap answerNumber (c .before .before .enum-told .given .1)) ∙ e .0, e .1)
+returns-2 c =
+    let a = c .before .before .before .before .before .before .before .before .before .before .before .before .args in
+    let read = c .before .before .before .before .read in
+    let enum-told = c .before .before .enum-told in
+    let is = answer-refused (readOutcome (a .bytes .now)) (read .result) _ (read .ensures) (enum-told .given .1) in let e = results _ _ (heard-refused (a .laptop) (memory (a .svids .now) (a .modes .now) (a .identity .now) (a .run .now) (a .held-svids .now) (a .held-modes .now) (a .held-identity .now) (a .held-run .now) (a .entered .now)) (sym (c .before .before .before .before .before .before .short-runs .ensures) ∙ c .before .before .before .before .before .if1 .left) (readOutcome (a .bytes .now)) _ is) in (c .refused2 .ensures ∙ ap (λ (k : ℕ). refusedBy k (a .laptop)) (c .before .number .ensures ∙ ap answerNumber (enum-told .given .1)) ∙ e .0, e .1)
 
 array-read-hear-request : tie.Need-array-read-hear-request
 array-read-hear-request c = search needs
@@ -71,7 +77,10 @@ same-length-6 : tie.Need-same-length-6
 same-length-6 c = search needs
 
 returns-3 : tie.Need-returns-3
-returns-3 c = let e = results _ _ (heard-request (c .before .before .before .before .before .before .before .before .before .before .before .before .before .before .before .args .laptop) (memory (c .before .before .before .before .before .before .before .before .before .before .before .before .before .before .before .args .svids .now) (c .before .before .before .before .before .before .before .before .before .before .before .before .before .before .before .args .modes .now) (c .before .before .before .before .before .before .before .before .before .before .before .before .before .before .before .args .identity .now) (c .before .before .before .before .before .before .before .before .before .before .before .before .before .before .before .args .run .now) (c .before .before .before .before .before .before .before .before .before .before .before .before .before .before .before .args .held-svids .now) (c .before .before .before .before .before .before .before .before .before .before .before .before .before .before .before .args .held-modes .now) (c .before .before .before .before .before .before .before .before .before .before .before .before .before .before .before .args .held-identity .now) (c .before .before .before .before .before .before .before .before .before .before .before .before .before .before .before .args .held-run .now) (c .before .before .before .before .before .before .before .before .before .before .before .before .before .before .before .args .entered .now)) (sym (c .before .before .before .before .before .before .before .before .before .short-runs .ensures) ∙ c .before .before .before .before .before .before .before .before .if1 .left) (c .before .before .before .before .before .before .before .before .before .before .before .before .before .before .before .args .bytes .now) (c .before .before .before .before .before .before .before .read .result) _ _ (c .before .before .before .before .before .before .before .read .ensures) (c .before .before .before .before .before .answer .given .1) (c .before .if2 .taken)) in (c .hear-request .ensures ∙ e .0, e .1)
+returns-3 c =
+    let a = c .before .before .before .before .before .before .before .before .before .before .before .before .before .before .before .args in
+    let read = c .before .before .before .before .before .before .before .read in
+    let e = results _ _ (heard-request (a .laptop) (memory (a .svids .now) (a .modes .now) (a .identity .now) (a .run .now) (a .held-svids .now) (a .held-modes .now) (a .held-identity .now) (a .held-run .now) (a .entered .now)) (sym (c .before .before .before .before .before .before .before .before .before .short-runs .ensures) ∙ c .before .before .before .before .before .before .before .before .if1 .left) (a .bytes .now) (read .result) _ _ (read .ensures) (c .before .before .before .before .before .answer .given .1) (c .before .if2 .taken)) in (c .hear-request .ensures ∙ e .0, e .1)
 
 fits-requires : tie.Need-fits-requires
 fits-requires c κs = search needs
@@ -86,7 +95,10 @@ same-length-8 : tie.Need-same-length-8
 same-length-8 c = search needs
 
 returns-4 : tie.Need-returns-4
-returns-4 c = let e = results _ _ (heard-unawaited (c .before .before .before .before .before .before .before .before .before .before .before .before .before .before .before .before .before .args .laptop) (memory (c .before .before .before .before .before .before .before .before .before .before .before .before .before .before .before .before .before .args .svids .now) (c .before .before .before .before .before .before .before .before .before .before .before .before .before .before .before .before .before .args .modes .now) (c .before .before .before .before .before .before .before .before .before .before .before .before .before .before .before .before .before .args .identity .now) (c .before .before .before .before .before .before .before .before .before .before .before .before .before .before .before .before .before .args .run .now) (c .before .before .before .before .before .before .before .before .before .before .before .before .before .before .before .before .before .args .held-svids .now) (c .before .before .before .before .before .before .before .before .before .before .before .before .before .before .before .before .before .args .held-modes .now) (c .before .before .before .before .before .before .before .before .before .before .before .before .before .before .before .before .before .args .held-identity .now) (c .before .before .before .before .before .before .before .before .before .before .before .before .before .before .before .before .before .args .held-run .now) (c .before .before .before .before .before .before .before .before .before .before .before .before .before .before .before .before .before .args .entered .now)) (sym (c .before .before .before .before .before .before .before .before .before .before .before .short-runs .ensures) ∙ c .before .before .before .before .before .before .before .before .before .before .if1 .left) (c .before .before .before .before .before .before .before .before .before .before .before .before .before .before .before .before .before .args .bytes .now) (c .before .before .before .before .before .before .before .before .before .read .result) _ _ (c .before .before .before .before .before .before .before .before .before .read .ensures) (c .before .before .before .before .before .before .before .answer .given .1) (c .before .before .before .if2 .left) (not-true _ (sym (ap not (c .before .before .fits2 .ensures)) ∙ c .before .if3 .taken))) in (c .hear-unawaited .ensures ∙ e .0, e .1)
+returns-4 c =
+    let a = c .before .before .before .before .before .before .before .before .before .before .before .before .before .before .before .before .before .args in
+    let read = c .before .before .before .before .before .before .before .before .before .read in
+    let e = results _ _ (heard-unawaited (a .laptop) (memory (a .svids .now) (a .modes .now) (a .identity .now) (a .run .now) (a .held-svids .now) (a .held-modes .now) (a .held-identity .now) (a .held-run .now) (a .entered .now)) (sym (c .before .before .before .before .before .before .before .before .before .before .before .short-runs .ensures) ∙ c .before .before .before .before .before .before .before .before .before .before .if1 .left) (a .bytes .now) (read .result) _ _ (read .ensures) (c .before .before .before .before .before .before .before .answer .given .1) (c .before .before .before .if2 .left) (not-true _ (sym (ap not (c .before .before .fits2 .ensures)) ∙ c .before .if3 .taken))) in (c .hear-unawaited .ensures ∙ e .0, e .1)
 
 hear-identity-requires : tie.Need-hear-identity-requires
 hear-identity-requires c κs = search needs
@@ -98,7 +110,10 @@ same-length-10 : tie.Need-same-length-10
 same-length-10 c = search needs
 
 returns-5 : tie.Need-returns-5
-returns-5 c = let e = results _ _ (heard-identity (c .before .before .before .before .before .before .before .before .before .before .before .before .before .before .before .before .before .before .before .before .before .before .args .laptop) (memory (c .before .before .before .before .before .before .before .before .before .before .before .before .before .before .before .before .before .before .before .before .before .before .args .svids .now) (c .before .before .before .before .before .before .before .before .before .before .before .before .before .before .before .before .before .before .before .before .before .before .args .modes .now) (c .before .before .before .before .before .before .before .before .before .before .before .before .before .before .before .before .before .before .before .before .before .before .args .identity .now) (c .before .before .before .before .before .before .before .before .before .before .before .before .before .before .before .before .before .before .before .before .before .before .args .run .now) (c .before .before .before .before .before .before .before .before .before .before .before .before .before .before .before .before .before .before .before .before .before .before .args .held-svids .now) (c .before .before .before .before .before .before .before .before .before .before .before .before .before .before .before .before .before .before .before .before .before .before .args .held-modes .now) (c .before .before .before .before .before .before .before .before .before .before .before .before .before .before .before .before .before .before .before .before .before .before .args .held-identity .now) (c .before .before .before .before .before .before .before .before .before .before .before .before .before .before .before .before .before .before .before .before .before .before .args .held-run .now) (c .before .before .before .before .before .before .before .before .before .before .before .before .before .before .before .before .before .before .before .before .before .before .args .entered .now)) (sym (c .before .before .before .before .before .before .before .before .before .before .before .before .before .before .before .before .short-runs .ensures) ∙ c .before .before .before .before .before .before .before .before .before .before .before .before .before .before .before .if1 .left) (c .before .before .before .before .before .before .before .before .before .before .before .before .before .before .before .before .before .before .before .before .before .before .args .bytes .now) (c .before .before .before .before .before .before .before .before .before .before .before .before .before .before .read .result) _ _ (c .before .before .before .before .before .before .before .before .before .before .before .before .before .before .read .ensures) (c .before .before .before .before .before .before .before .before .before .before .before .before .answer .given .1) (c .before .before .before .before .before .before .before .before .if2 .left) (not-false _ (sym (ap not (c .before .before .before .before .before .before .before .fits2 .ensures)) ∙ c .before .before .before .before .before .before .if3 .left)) (c .before .before .before .before .if4 .taken)) in let o = opening (memory (c .before .before .before .before .before .before .before .before .before .before .before .before .before .before .before .before .before .before .before .before .before .before .args .svids .now) (c .before .before .before .before .before .before .before .before .before .before .before .before .before .before .before .before .before .before .before .before .before .before .args .modes .now) (c .before .before .before .before .before .before .before .before .before .before .before .before .before .before .before .before .before .before .before .before .before .before .args .identity .now) (c .before .before .before .before .before .before .before .before .before .before .before .before .before .before .before .before .before .before .before .before .before .before .args .run .now) (c .before .before .before .before .before .before .before .before .before .before .before .before .before .before .before .before .before .before .before .before .before .before .args .held-svids .now) (c .before .before .before .before .before .before .before .before .before .before .before .before .before .before .before .before .before .before .before .before .before .before .args .held-modes .now) (c .before .before .before .before .before .before .before .before .before .before .before .before .before .before .before .before .before .before .before .before .before .before .args .held-identity .now) (c .before .before .before .before .before .before .before .before .before .before .before .before .before .before .before .before .before .before .before .before .before .before .args .held-run .now) (c .before .before .before .before .before .before .before .before .before .before .before .before .before .before .before .before .before .before .before .before .before .before .args .entered .now)) _ _ _ _ (c .hear-identity .ensures .0) (c .hear-identity .ensures .1) (c .hear-identity .ensures .2) in (o .0 ∙ e .0, o .1 ∙ e .1)
+returns-5 c =
+    let a = c .before .before .before .before .before .before .before .before .before .before .before .before .before .before .before .before .before .before .before .before .before .before .args in
+    let read = c .before .before .before .before .before .before .before .before .before .before .before .before .before .before .read in
+    let e = results _ _ (heard-identity (a .laptop) (memory (a .svids .now) (a .modes .now) (a .identity .now) (a .run .now) (a .held-svids .now) (a .held-modes .now) (a .held-identity .now) (a .held-run .now) (a .entered .now)) (sym (c .before .before .before .before .before .before .before .before .before .before .before .before .before .before .before .before .short-runs .ensures) ∙ c .before .before .before .before .before .before .before .before .before .before .before .before .before .before .before .if1 .left) (a .bytes .now) (read .result) _ _ (read .ensures) (c .before .before .before .before .before .before .before .before .before .before .before .before .answer .given .1) (c .before .before .before .before .before .before .before .before .if2 .left) (not-false _ (sym (ap not (c .before .before .before .before .before .before .before .fits2 .ensures)) ∙ c .before .before .before .before .before .before .if3 .left)) (c .before .before .before .before .if4 .taken)) in let o = opening (memory (a .svids .now) (a .modes .now) (a .identity .now) (a .run .now) (a .held-svids .now) (a .held-modes .now) (a .held-identity .now) (a .held-run .now) (a .entered .now)) _ _ _ _ (c .hear-identity .ensures .0) (c .hear-identity .ensures .1) (c .hear-identity .ensures .2) in (o .0 ∙ e .0, o .1 ∙ e .1)
 
 hear-svids-requires : tie.Need-hear-svids-requires
 hear-svids-requires c κs = search needs
@@ -113,7 +128,12 @@ same-length-12 : tie.Need-same-length-12
 same-length-12 c = search needs
 
 returns-6 : tie.Need-returns-6
-returns-6 c = let e = results _ _ (heard-svids (c .before .before .before .before .before .before .before .before .before .before .before .before .before .before .before .before .before .before .before .before .before .before .before .before .before .before .before .before .before .before .before .before .before .before .args .laptop) (memory (c .before .before .before .before .before .before .before .before .before .before .before .before .before .before .before .before .before .before .before .before .before .before .before .before .before .before .before .before .before .before .before .before .before .before .args .svids .now) (c .before .before .before .before .before .before .before .before .before .before .before .before .before .before .before .before .before .before .before .before .before .before .before .before .before .before .before .before .before .before .before .before .before .before .args .modes .now) (c .before .before .before .before .before .before .before .before .before .before .before .before .before .before .before .before .before .before .before .before .before .before .before .before .before .before .before .before .before .before .before .before .before .before .args .identity .now) (c .before .before .before .before .before .before .before .before .before .before .before .before .before .before .before .before .before .before .before .before .before .before .before .before .before .before .before .before .before .before .before .before .before .before .args .run .now) (c .before .before .before .before .before .before .before .before .before .before .before .before .before .before .before .before .before .before .before .before .before .before .before .before .before .before .before .before .before .before .before .before .before .before .args .held-svids .now) (c .before .before .before .before .before .before .before .before .before .before .before .before .before .before .before .before .before .before .before .before .before .before .before .before .before .before .before .before .before .before .before .before .before .before .args .held-modes .now) (c .before .before .before .before .before .before .before .before .before .before .before .before .before .before .before .before .before .before .before .before .before .before .before .before .before .before .before .before .before .before .before .before .before .before .args .held-identity .now) (c .before .before .before .before .before .before .before .before .before .before .before .before .before .before .before .before .before .before .before .before .before .before .before .before .before .before .before .before .before .before .before .before .before .before .args .held-run .now) (c .before .before .before .before .before .before .before .before .before .before .before .before .before .before .before .before .before .before .before .before .before .before .before .before .before .before .before .before .before .before .before .before .before .before .args .entered .now)) (sym (c .before .before .before .before .before .before .before .before .before .before .before .before .before .before .before .before .before .before .before .before .before .before .before .before .before .before .before .before .short-runs .ensures) ∙ c .before .before .before .before .before .before .before .before .before .before .before .before .before .before .before .before .before .before .before .before .before .before .before .before .before .before .before .if1 .left) (c .before .before .before .before .before .before .before .before .before .before .before .before .before .before .before .before .before .before .before .before .before .before .before .before .before .before .before .before .before .before .before .before .before .before .args .bytes .now) (c .before .before .before .before .before .before .before .before .before .before .before .before .before .before .before .before .before .before .before .before .before .before .before .before .before .before .read .result) _ _ (c .before .before .before .before .before .before .before .before .before .before .before .before .before .before .before .before .before .before .before .before .before .before .before .before .before .before .read .ensures) (c .before .before .before .before .before .before .before .before .before .before .before .before .before .before .before .before .before .before .before .before .before .before .before .before .answer .given .1) (c .before .before .before .before .before .before .before .before .before .before .before .before .before .before .before .before .before .before .before .before .if2 .left) (not-false _ (sym (ap not (c .before .before .before .before .before .before .before .before .before .before .before .before .before .before .before .before .before .before .before .fits2 .ensures)) ∙ c .before .before .before .before .before .before .before .before .before .before .before .before .before .before .before .before .before .before .if3 .left)) (c .before .before .before .before .before .before .before .before .before .before .before .before .before .before .if5 .taken)) in let o = settled-gathering (memory (c .before .before .before .before .before .before .before .before .before .before .before .before .before .before .before .before .before .before .before .before .before .before .before .before .before .before .before .before .before .before .before .before .before .before .args .svids .now) (c .before .before .before .before .before .before .before .before .before .before .before .before .before .before .before .before .before .before .before .before .before .before .before .before .before .before .before .before .before .before .before .before .before .before .args .modes .now) (c .before .before .before .before .before .before .before .before .before .before .before .before .before .before .before .before .before .before .before .before .before .before .before .before .before .before .before .before .before .before .before .before .before .before .args .identity .now) (c .before .before .before .before .before .before .before .before .before .before .before .before .before .before .before .before .before .before .before .before .before .before .before .before .before .before .before .before .before .before .before .before .before .before .args .run .now) (c .before .before .before .before .before .before .before .before .before .before .before .before .before .before .before .before .before .before .before .before .before .before .before .before .before .before .before .before .before .before .before .before .before .before .args .held-svids .now) (c .before .before .before .before .before .before .before .before .before .before .before .before .before .before .before .before .before .before .before .before .before .before .before .before .before .before .before .before .before .before .before .before .before .before .args .held-modes .now) (c .before .before .before .before .before .before .before .before .before .before .before .before .before .before .before .before .before .before .before .before .before .before .before .before .before .before .before .before .before .before .before .before .before .before .args .held-identity .now) (c .before .before .before .before .before .before .before .before .before .before .before .before .before .before .before .before .before .before .before .before .before .before .before .before .before .before .before .before .before .before .before .before .before .before .args .held-run .now) (c .before .before .before .before .before .before .before .before .before .before .before .before .before .before .before .before .before .before .before .before .before .before .before .before .before .before .before .before .before .before .before .before .before .before .args .entered .now)) _ _ _ _ _ _ _ _ _ (c .before .before .settle .ensures .0) (c .before .before .settle .ensures .1) (c .before .before .settle .ensures .2) (c .before .before .settle .ensures .3) (c .before .before .settle .ensures .4) _ (c .before .before .before .before .before .before .before .before .before .before .before .hear-svids .ensures .0) (c .before .before .before .before .before .before .before .before .before .before .before .hear-svids .ensures .1) refl refl in (o .0 ∙ e .0, o .1 ∙ e .1)
+returns-6 c =
+    let a = c .before .before .before .before .before .before .before .before .before .before .before .before .before .before .before .before .before .before .before .before .before .before .before .before .before .before .before .before .before .before .before .before .before .before .args in
+    let read = c .before .before .before .before .before .before .before .before .before .before .before .before .before .before .before .before .before .before .before .before .before .before .before .before .before .before .read in
+    let hear-svids = c .before .before .before .before .before .before .before .before .before .before .before .hear-svids in
+    let settle = c .before .before .settle in
+    let e = results _ _ (heard-svids (a .laptop) (memory (a .svids .now) (a .modes .now) (a .identity .now) (a .run .now) (a .held-svids .now) (a .held-modes .now) (a .held-identity .now) (a .held-run .now) (a .entered .now)) (sym (c .before .before .before .before .before .before .before .before .before .before .before .before .before .before .before .before .before .before .before .before .before .before .before .before .before .before .before .before .short-runs .ensures) ∙ c .before .before .before .before .before .before .before .before .before .before .before .before .before .before .before .before .before .before .before .before .before .before .before .before .before .before .before .if1 .left) (a .bytes .now) (read .result) _ _ (read .ensures) (c .before .before .before .before .before .before .before .before .before .before .before .before .before .before .before .before .before .before .before .before .before .before .before .before .answer .given .1) (c .before .before .before .before .before .before .before .before .before .before .before .before .before .before .before .before .before .before .before .before .if2 .left) (not-false _ (sym (ap not (c .before .before .before .before .before .before .before .before .before .before .before .before .before .before .before .before .before .before .before .fits2 .ensures)) ∙ c .before .before .before .before .before .before .before .before .before .before .before .before .before .before .before .before .before .before .if3 .left)) (c .before .before .before .before .before .before .before .before .before .before .before .before .before .before .if5 .taken)) in let o = settled-gathering (memory (a .svids .now) (a .modes .now) (a .identity .now) (a .run .now) (a .held-svids .now) (a .held-modes .now) (a .held-identity .now) (a .held-run .now) (a .entered .now)) _ _ _ _ _ _ _ _ _ (settle .ensures .0) (settle .ensures .1) (settle .ensures .2) (settle .ensures .3) (settle .ensures .4) _ (hear-svids .ensures .0) (hear-svids .ensures .1) refl refl in (o .0 ∙ e .0, o .1 ∙ e .1)
 
 slice-aggregate-first-objects : tie.Need-slice-aggregate-first-objects
 slice-aggregate-first-objects c = search needs
@@ -125,7 +145,10 @@ first-objects-requires : tie.Need-first-objects-requires
 first-objects-requires c κs = search needs
 
 hear-modes-requires : tie.Need-hear-modes-requires
-hear-modes-requires c κs = (omega (arith, ap length (c .before .before .first-objects .ensures), length-take (c .before .before .before .before .before .before .before .before .before .before .before .before .before .before .before .before .answer .given .0 .1 .0) (c .before .before .before .before .before .before .before .before .before .before .before .before .before .before .before .before .before .before .read .result .objects), count-few (c .before .before .before .before .before .before .before .before .before .before .before .before .before .before .before .before .before .before .before .before .before .before .before .before .before .before .args .bytes .now) (c .before .before .before .before .before .before .before .before .before .before .before .before .before .before .before .before .before .before .read .result) _ _ (c .before .before .before .before .before .before .before .before .before .before .before .before .before .before .before .before .before .before .read .ensures) (c .before .before .before .before .before .before .before .before .before .before .before .before .before .before .before .before .answer .given .1)), runs-long _ _ (sym (c .before .before .before .before .before .before .before .before .before .before .before .before .before .before .before .before .before .before .before .before .short-runs .ensures) ∙ c .before .before .before .before .before .before .before .before .before .before .before .before .before .before .before .before .before .before .before .if1 .left) .0)
+hear-modes-requires c κs =
+    let read = c .before .before .before .before .before .before .before .before .before .before .before .before .before .before .before .before .before .before .read in
+    let answer = c .before .before .before .before .before .before .before .before .before .before .before .before .before .before .before .before .answer in
+    (omega (arith, ap length (c .before .before .first-objects .ensures), length-take (answer .given .0 .1 .0) (read .result .objects), count-few (c .before .before .before .before .before .before .before .before .before .before .before .before .before .before .before .before .before .before .before .before .before .before .before .before .before .before .args .bytes .now) (read .result) _ _ (read .ensures) (answer .given .1)), runs-long _ _ (sym (c .before .before .before .before .before .before .before .before .before .before .before .before .before .before .before .before .before .before .before .before .short-runs .ensures) ∙ c .before .before .before .before .before .before .before .before .before .before .before .before .before .before .before .before .before .before .before .if1 .left) .0)
 
 settle-requires-2 : tie.Need-settle-requires-2
 settle-requires-2 c κs = let e = runs-long _ _ (sym (c .before .before .before .before .before .before .before .before .before .before .before .before .before .before .before .before .before .before .before .before .before .before .before .before .before .before .before .before .before .before .before .short-runs .ensures) ∙ c .before .before .before .before .before .before .before .before .before .before .before .before .before .before .before .before .before .before .before .before .before .before .before .before .before .before .before .before .before .before .if1 .left) in (omega (arith, e .0, c .before .before .before .before .before .before .before .before .before .run .given), e .1)
@@ -137,7 +160,13 @@ same-length-14 : tie.Need-same-length-14
 same-length-14 c = search needs
 
 returns-7 : tie.Need-returns-7
-returns-7 c = let e = results _ _ (heard-modes (c .before .before .before .before .before .before .before .before .before .before .before .before .before .before .before .before .before .before .before .before .before .before .before .before .before .before .before .before .before .before .before .before .before .before .before .before .before .before .before .before .args .laptop) (memory (c .before .before .before .before .before .before .before .before .before .before .before .before .before .before .before .before .before .before .before .before .before .before .before .before .before .before .before .before .before .before .before .before .before .before .before .before .before .before .before .before .args .svids .now) (c .before .before .before .before .before .before .before .before .before .before .before .before .before .before .before .before .before .before .before .before .before .before .before .before .before .before .before .before .before .before .before .before .before .before .before .before .before .before .before .before .args .modes .now) (c .before .before .before .before .before .before .before .before .before .before .before .before .before .before .before .before .before .before .before .before .before .before .before .before .before .before .before .before .before .before .before .before .before .before .before .before .before .before .before .before .args .identity .now) (c .before .before .before .before .before .before .before .before .before .before .before .before .before .before .before .before .before .before .before .before .before .before .before .before .before .before .before .before .before .before .before .before .before .before .before .before .before .before .before .before .args .run .now) (c .before .before .before .before .before .before .before .before .before .before .before .before .before .before .before .before .before .before .before .before .before .before .before .before .before .before .before .before .before .before .before .before .before .before .before .before .before .before .before .before .args .held-svids .now) (c .before .before .before .before .before .before .before .before .before .before .before .before .before .before .before .before .before .before .before .before .before .before .before .before .before .before .before .before .before .before .before .before .before .before .before .before .before .before .before .before .args .held-modes .now) (c .before .before .before .before .before .before .before .before .before .before .before .before .before .before .before .before .before .before .before .before .before .before .before .before .before .before .before .before .before .before .before .before .before .before .before .before .before .before .before .before .args .held-identity .now) (c .before .before .before .before .before .before .before .before .before .before .before .before .before .before .before .before .before .before .before .before .before .before .before .before .before .before .before .before .before .before .before .before .before .before .before .before .before .before .before .before .args .held-run .now) (c .before .before .before .before .before .before .before .before .before .before .before .before .before .before .before .before .before .before .before .before .before .before .before .before .before .before .before .before .before .before .before .before .before .before .before .before .before .before .before .before .args .entered .now)) (sym (c .before .before .before .before .before .before .before .before .before .before .before .before .before .before .before .before .before .before .before .before .before .before .before .before .before .before .before .before .before .before .before .before .before .before .short-runs .ensures) ∙ c .before .before .before .before .before .before .before .before .before .before .before .before .before .before .before .before .before .before .before .before .before .before .before .before .before .before .before .before .before .before .before .before .before .if1 .left) (c .before .before .before .before .before .before .before .before .before .before .before .before .before .before .before .before .before .before .before .before .before .before .before .before .before .before .before .before .before .before .before .before .before .before .before .before .before .before .before .before .args .bytes .now) (c .before .before .before .before .before .before .before .before .before .before .before .before .before .before .before .before .before .before .before .before .before .before .before .before .before .before .before .before .before .before .before .before .read .result) _ _ (c .before .before .before .before .before .before .before .before .before .before .before .before .before .before .before .before .before .before .before .before .before .before .before .before .before .before .before .before .before .before .before .before .read .ensures) (c .before .before .before .before .before .before .before .before .before .before .before .before .before .before .before .before .before .before .before .before .before .before .before .before .before .before .before .before .before .before .answer .given .1) (c .before .before .before .before .before .before .before .before .before .before .before .before .before .before .before .before .before .before .before .before .before .before .before .before .before .before .if2 .left) (not-false _ (sym (ap not (c .before .before .before .before .before .before .before .before .before .before .before .before .before .before .before .before .before .before .before .before .before .before .before .before .before .fits2 .ensures)) ∙ c .before .before .before .before .before .before .before .before .before .before .before .before .before .before .before .before .before .before .before .before .before .before .before .before .if3 .left)) (c .before .before .before .before .before .before .before .before .before .before .before .before .before .before .before .before .before .before .if6 .taken) ∙ ap (λ (w : List ℕ). settled (withFilling (memory (c .before .before .before .before .before .before .before .before .before .before .before .before .before .before .before .before .before .before .before .before .before .before .before .before .before .before .before .before .before .before .before .before .before .before .before .before .before .before .before .before .args .svids .now) (c .before .before .before .before .before .before .before .before .before .before .before .before .before .before .before .before .before .before .before .before .before .before .before .before .before .before .before .before .before .before .before .before .before .before .before .before .before .before .before .before .args .modes .now) (c .before .before .before .before .before .before .before .before .before .before .before .before .before .before .before .before .before .before .before .before .before .before .before .before .before .before .before .before .before .before .before .before .before .before .before .before .before .before .before .before .args .identity .now) (c .before .before .before .before .before .before .before .before .before .before .before .before .before .before .before .before .before .before .before .before .before .before .before .before .before .before .before .before .before .before .before .before .before .before .before .before .before .before .before .before .args .run .now) (c .before .before .before .before .before .before .before .before .before .before .before .before .before .before .before .before .before .before .before .before .before .before .before .before .before .before .before .before .before .before .before .before .before .before .before .before .before .before .before .before .args .held-svids .now) (c .before .before .before .before .before .before .before .before .before .before .before .before .before .before .before .before .before .before .before .before .before .before .before .before .before .before .before .before .before .before .before .before .before .before .before .before .before .before .before .before .args .held-modes .now) (c .before .before .before .before .before .before .before .before .before .before .before .before .before .before .before .before .before .before .before .before .before .before .before .before .before .before .before .before .before .before .before .before .before .before .before .before .before .before .before .before .args .held-identity .now) (c .before .before .before .before .before .before .before .before .before .before .before .before .before .before .before .before .before .before .before .before .before .before .before .before .before .before .before .before .before .before .before .before .before .before .before .before .before .before .before .before .args .held-run .now) (c .before .before .before .before .before .before .before .before .before .before .before .before .before .before .before .before .before .before .before .before .before .before .before .before .before .before .before .before .before .before .before .before .before .before .before .before .before .before .before .before .args .entered .now)) (hearModes (c .before .before .before .before .before .before .before .before .before .before .before .before .before .before .before .before .before .before .before .before .before .before .before .before .before .before .before .before .before .before .before .before .before .before .before .before .before .before .before .before .args .laptop) (c .before .before .before .before .before .before .before .before .before .before .before .before .before .before .before .before .before .before .before .before .before .before .before .before .before .before .before .before .before .before .answer .given .0 .0 .kind) w (c .before .before .before .before .before .before .before .before .before .before .before .before .before .before .before .before .before .before .before .before .before .before .before .before .before .before .before .before .before .before .before .before .before .before .before .before .before .before .before .before .args .modes .now) (c .before .before .before .before .before .before .before .before .before .before .before .before .before .before .before .before .before .before .before .before .before .before .before .before .before .before .before .before .before .before .before .before .before .before .before .before .before .before .before .before .args .run .now)))) (sym (c .before .before .before .before .before .before .before .before .before .before .before .before .before .before .before .before .first-objects .ensures))) in let o = settled-filling (memory (c .before .before .before .before .before .before .before .before .before .before .before .before .before .before .before .before .before .before .before .before .before .before .before .before .before .before .before .before .before .before .before .before .before .before .before .before .before .before .before .before .args .svids .now) (c .before .before .before .before .before .before .before .before .before .before .before .before .before .before .before .before .before .before .before .before .before .before .before .before .before .before .before .before .before .before .before .before .before .before .before .before .before .before .before .before .args .modes .now) (c .before .before .before .before .before .before .before .before .before .before .before .before .before .before .before .before .before .before .before .before .before .before .before .before .before .before .before .before .before .before .before .before .before .before .before .before .before .before .before .before .args .identity .now) (c .before .before .before .before .before .before .before .before .before .before .before .before .before .before .before .before .before .before .before .before .before .before .before .before .before .before .before .before .before .before .before .before .before .before .before .before .before .before .before .before .args .run .now) (c .before .before .before .before .before .before .before .before .before .before .before .before .before .before .before .before .before .before .before .before .before .before .before .before .before .before .before .before .before .before .before .before .before .before .before .before .before .before .before .before .args .held-svids .now) (c .before .before .before .before .before .before .before .before .before .before .before .before .before .before .before .before .before .before .before .before .before .before .before .before .before .before .before .before .before .before .before .before .before .before .before .before .before .before .before .before .args .held-modes .now) (c .before .before .before .before .before .before .before .before .before .before .before .before .before .before .before .before .before .before .before .before .before .before .before .before .before .before .before .before .before .before .before .before .before .before .before .before .before .before .before .before .args .held-identity .now) (c .before .before .before .before .before .before .before .before .before .before .before .before .before .before .before .before .before .before .before .before .before .before .before .before .before .before .before .before .before .before .before .before .before .before .before .before .before .before .before .before .args .held-run .now) (c .before .before .before .before .before .before .before .before .before .before .before .before .before .before .before .before .before .before .before .before .before .before .before .before .before .before .before .before .before .before .before .before .before .before .before .before .before .before .before .before .args .entered .now)) _ _ _ _ _ _ _ _ _ (c .before .before .settle2 .ensures .0) (c .before .before .settle2 .ensures .1) (c .before .before .settle2 .ensures .2) (c .before .before .settle2 .ensures .3) (c .before .before .settle2 .ensures .4) _ (c .before .before .before .before .before .before .before .before .before .before .before .before .before .hear-modes .ensures .0) (c .before .before .before .before .before .before .before .before .before .before .before .before .before .hear-modes .ensures .1) (c .before .before .before .before .before .before .before .before .before .before .before .before .before .hear-modes .ensures .2) refl in (o .0 ∙ e .0, o .1 ∙ e .1)
+returns-7 c =
+    let a = c .before .before .before .before .before .before .before .before .before .before .before .before .before .before .before .before .before .before .before .before .before .before .before .before .before .before .before .before .before .before .before .before .before .before .before .before .before .before .before .before .args in
+    let read = c .before .before .before .before .before .before .before .before .before .before .before .before .before .before .before .before .before .before .before .before .before .before .before .before .before .before .before .before .before .before .before .before .read in
+    let answer = c .before .before .before .before .before .before .before .before .before .before .before .before .before .before .before .before .before .before .before .before .before .before .before .before .before .before .before .before .before .before .answer in
+    let hear-modes = c .before .before .before .before .before .before .before .before .before .before .before .before .before .hear-modes in
+    let settle2 = c .before .before .settle2 in
+    let e = results _ _ (heard-modes (a .laptop) (memory (a .svids .now) (a .modes .now) (a .identity .now) (a .run .now) (a .held-svids .now) (a .held-modes .now) (a .held-identity .now) (a .held-run .now) (a .entered .now)) (sym (c .before .before .before .before .before .before .before .before .before .before .before .before .before .before .before .before .before .before .before .before .before .before .before .before .before .before .before .before .before .before .before .before .before .before .short-runs .ensures) ∙ c .before .before .before .before .before .before .before .before .before .before .before .before .before .before .before .before .before .before .before .before .before .before .before .before .before .before .before .before .before .before .before .before .before .if1 .left) (a .bytes .now) (read .result) _ _ (read .ensures) (answer .given .1) (c .before .before .before .before .before .before .before .before .before .before .before .before .before .before .before .before .before .before .before .before .before .before .before .before .before .before .if2 .left) (not-false _ (sym (ap not (c .before .before .before .before .before .before .before .before .before .before .before .before .before .before .before .before .before .before .before .before .before .before .before .before .before .fits2 .ensures)) ∙ c .before .before .before .before .before .before .before .before .before .before .before .before .before .before .before .before .before .before .before .before .before .before .before .before .if3 .left)) (c .before .before .before .before .before .before .before .before .before .before .before .before .before .before .before .before .before .before .if6 .taken) ∙ ap (λ (w : List ℕ). settled (withFilling (memory (a .svids .now) (a .modes .now) (a .identity .now) (a .run .now) (a .held-svids .now) (a .held-modes .now) (a .held-identity .now) (a .held-run .now) (a .entered .now)) (hearModes (a .laptop) (answer .given .0 .0 .kind) w (a .modes .now) (a .run .now)))) (sym (c .before .before .before .before .before .before .before .before .before .before .before .before .before .before .before .before .first-objects .ensures))) in let o = settled-filling (memory (a .svids .now) (a .modes .now) (a .identity .now) (a .run .now) (a .held-svids .now) (a .held-modes .now) (a .held-identity .now) (a .held-run .now) (a .entered .now)) _ _ _ _ _ _ _ _ _ (settle2 .ensures .0) (settle2 .ensures .1) (settle2 .ensures .2) (settle2 .ensures .3) (settle2 .ensures .4) _ (hear-modes .ensures .0) (hear-modes .ensures .1) (hear-modes .ensures .2) refl in (o .0 ∙ e .0, o .1 ∙ e .1)
 
 request-of-requires : tie.Need-request-of-requires
 request-of-requires c κs = search needs
@@ -152,7 +181,11 @@ same-length-16 : tie.Need-same-length-16
 same-length-16 c = search needs
 
 returns-8 : tie.Need-returns-8
-returns-8 c = let e = results _ _ (heard-mode (c .before .before .before .before .before .before .before .before .before .before .before .before .before .before .before .before .before .before .before .before .before .before .before .before .before .before .args .laptop) (memory (c .before .before .before .before .before .before .before .before .before .before .before .before .before .before .before .before .before .before .before .before .before .before .before .before .before .before .args .svids .now) (c .before .before .before .before .before .before .before .before .before .before .before .before .before .before .before .before .before .before .before .before .before .before .before .before .before .before .args .modes .now) (c .before .before .before .before .before .before .before .before .before .before .before .before .before .before .before .before .before .before .before .before .before .before .before .before .before .before .args .identity .now) (c .before .before .before .before .before .before .before .before .before .before .before .before .before .before .before .before .before .before .before .before .before .before .before .before .before .before .args .run .now) (c .before .before .before .before .before .before .before .before .before .before .before .before .before .before .before .before .before .before .before .before .before .before .before .before .before .before .args .held-svids .now) (c .before .before .before .before .before .before .before .before .before .before .before .before .before .before .before .before .before .before .before .before .before .before .before .before .before .before .args .held-modes .now) (c .before .before .before .before .before .before .before .before .before .before .before .before .before .before .before .before .before .before .before .before .before .before .before .before .before .before .args .held-identity .now) (c .before .before .before .before .before .before .before .before .before .before .before .before .before .before .before .before .before .before .before .before .before .before .before .before .before .before .args .held-run .now) (c .before .before .before .before .before .before .before .before .before .before .before .before .before .before .before .before .before .before .before .before .before .before .before .before .before .before .args .entered .now)) (sym (c .before .before .before .before .before .before .before .before .before .before .before .before .before .before .before .before .before .before .before .before .short-runs .ensures) ∙ c .before .before .before .before .before .before .before .before .before .before .before .before .before .before .before .before .before .before .before .if1 .left) (c .before .before .before .before .before .before .before .before .before .before .before .before .before .before .before .before .before .before .before .before .before .before .before .before .before .before .args .bytes .now) (c .before .before .before .before .before .before .before .before .before .before .before .before .before .before .before .before .before .before .read .result) _ _ (c .before .before .before .before .before .before .before .before .before .before .before .before .before .before .before .before .before .before .read .ensures) (c .before .before .before .before .before .before .before .before .before .before .before .before .before .before .before .before .answer .given .1) (c .before .before .before .before .before .before .before .before .before .before .before .before .if2 .left) (not-false _ (sym (ap not (c .before .before .before .before .before .before .before .before .before .before .before .fits2 .ensures)) ∙ c .before .before .before .before .before .before .before .before .before .before .if3 .left)) (c .before .before .before .before .before .before .before .before .if4 .left) (c .before .before .before .before .before .before .if5 .left) (c .before .before .before .before .if6 .left) ∙ ap (λ (q : Request). withMarking (memory (c .before .before .before .before .before .before .before .before .before .before .before .before .before .before .before .before .before .before .before .before .before .before .before .before .before .before .args .svids .now) (c .before .before .before .before .before .before .before .before .before .before .before .before .before .before .before .before .before .before .before .before .before .before .before .before .before .before .args .modes .now) (c .before .before .before .before .before .before .before .before .before .before .before .before .before .before .before .before .before .before .before .before .before .before .before .before .before .before .args .identity .now) (c .before .before .before .before .before .before .before .before .before .before .before .before .before .before .before .before .before .before .before .before .before .before .before .before .before .before .args .run .now) (c .before .before .before .before .before .before .before .before .before .before .before .before .before .before .before .before .before .before .before .before .before .before .before .before .before .before .args .held-svids .now) (c .before .before .before .before .before .before .before .before .before .before .before .before .before .before .before .before .before .before .before .before .before .before .before .before .before .before .args .held-modes .now) (c .before .before .before .before .before .before .before .before .before .before .before .before .before .before .before .before .before .before .before .before .before .before .before .before .before .before .args .held-identity .now) (c .before .before .before .before .before .before .before .before .before .before .before .before .before .before .before .before .before .before .before .before .before .before .before .before .before .before .args .held-run .now) (c .before .before .before .before .before .before .before .before .before .before .before .before .before .before .before .before .before .before .before .before .before .before .before .before .before .before .args .entered .now)) (hearMode (c .before .before .before .before .before .before .before .before .before .before .before .before .before .before .before .before .before .before .before .before .before .before .before .before .before .before .args .laptop) (c .before .before .before .before .before .before .before .before .before .before .before .before .before .before .before .before .answer .given .0 .0 .kind) q (c .before .before .before .before .before .before .before .before .before .before .before .before .before .before .before .before .before .before .before .before .before .before .before .before .before .before .args .held-svids .now) (c .before .before .before .before .before .before .before .before .before .before .before .before .before .before .before .before .before .before .before .before .before .before .before .before .before .before .args .entered .now))) (sym (c .before .before .before .request-of .ensures))) in let o = marking (memory (c .before .before .before .before .before .before .before .before .before .before .before .before .before .before .before .before .before .before .before .before .before .before .before .before .before .before .args .svids .now) (c .before .before .before .before .before .before .before .before .before .before .before .before .before .before .before .before .before .before .before .before .before .before .before .before .before .before .args .modes .now) (c .before .before .before .before .before .before .before .before .before .before .before .before .before .before .before .before .before .before .before .before .before .before .before .before .before .before .args .identity .now) (c .before .before .before .before .before .before .before .before .before .before .before .before .before .before .before .before .before .before .before .before .before .before .before .before .before .before .args .run .now) (c .before .before .before .before .before .before .before .before .before .before .before .before .before .before .before .before .before .before .before .before .before .before .before .before .before .before .args .held-svids .now) (c .before .before .before .before .before .before .before .before .before .before .before .before .before .before .before .before .before .before .before .before .before .before .before .before .before .before .args .held-modes .now) (c .before .before .before .before .before .before .before .before .before .before .before .before .before .before .before .before .before .before .before .before .before .before .before .before .before .before .args .held-identity .now) (c .before .before .before .before .before .before .before .before .before .before .before .before .before .before .before .before .before .before .before .before .before .before .before .before .before .before .args .held-run .now) (c .before .before .before .before .before .before .before .before .before .before .before .before .before .before .before .before .before .before .before .before .before .before .before .before .before .before .args .entered .now)) _ _ _ (c .hear-mode .ensures .0) (c .hear-mode .ensures .1) in (o .0 ∙ e .0, o .1 ∙ e .1)
+returns-8 c =
+    let a = c .before .before .before .before .before .before .before .before .before .before .before .before .before .before .before .before .before .before .before .before .before .before .before .before .before .before .args in
+    let read = c .before .before .before .before .before .before .before .before .before .before .before .before .before .before .before .before .before .before .read in
+    let answer = c .before .before .before .before .before .before .before .before .before .before .before .before .before .before .before .before .answer in
+    let e = results _ _ (heard-mode (a .laptop) (memory (a .svids .now) (a .modes .now) (a .identity .now) (a .run .now) (a .held-svids .now) (a .held-modes .now) (a .held-identity .now) (a .held-run .now) (a .entered .now)) (sym (c .before .before .before .before .before .before .before .before .before .before .before .before .before .before .before .before .before .before .before .before .short-runs .ensures) ∙ c .before .before .before .before .before .before .before .before .before .before .before .before .before .before .before .before .before .before .before .if1 .left) (a .bytes .now) (read .result) _ _ (read .ensures) (answer .given .1) (c .before .before .before .before .before .before .before .before .before .before .before .before .if2 .left) (not-false _ (sym (ap not (c .before .before .before .before .before .before .before .before .before .before .before .fits2 .ensures)) ∙ c .before .before .before .before .before .before .before .before .before .before .if3 .left)) (c .before .before .before .before .before .before .before .before .if4 .left) (c .before .before .before .before .before .before .if5 .left) (c .before .before .before .before .if6 .left) ∙ ap (λ (q : Request). withMarking (memory (a .svids .now) (a .modes .now) (a .identity .now) (a .run .now) (a .held-svids .now) (a .held-modes .now) (a .held-identity .now) (a .held-run .now) (a .entered .now)) (hearMode (a .laptop) (answer .given .0 .0 .kind) q (a .held-svids .now) (a .entered .now))) (sym (c .before .before .before .request-of .ensures))) in let o = marking (memory (a .svids .now) (a .modes .now) (a .identity .now) (a .run .now) (a .held-svids .now) (a .held-modes .now) (a .held-identity .now) (a .held-run .now) (a .entered .now)) _ _ _ (c .hear-mode .ensures .0) (c .hear-mode .ensures .1) in (o .0 ∙ e .0, o .1 ∙ e .1)
 
 pub message-spec : {M : Type 1} → statement M
 message-spec =

@@ -29,23 +29,27 @@ is-entered-requires : tie.Need-is-entered-requires
 is-entered-requires c κs = search needs
 
 returns-3 : tie.Need-returns-3
-returns-3 c = let a = c .before .before .before .before .before .before .before .before .args in
-    let allowed : (eqb (a .position) 7 || hasMode (a .modes .now) (c .before .before .before .before .place-of .result) (a .position)) ≡ true =
+returns-3 c =
+    let place-of = c .before .before .before .before .place-of in
+    let a = c .before .before .before .before .before .before .before .before .args in
+    let allowed : (eqb (a .position) 7 || hasMode (a .modes .now) (place-of .result) (a .position)) ≡ true =
     elim (c .before .before .if2 .came) [
-      | inl x ↦ exit-mode (a .modes .now) (c .before .before .before .before .place-of .result) (a .position) (x .0 .taken) (sym (x .1 .ensures) ∙ not-false _ (x .2 .left))
-      | inr x ↦ exit-seven (a .modes .now) (c .before .before .before .before .place-of .result) (a .position) (x .left)
+      | inl x ↦ exit-mode (a .modes .now) (place-of .result) (a .position) (x .0 .taken) (sym (x .1 .ensures) ∙ not-false _ (x .2 .left))
+      | inr x ↦ exit-seven (a .modes .now) (place-of .result) (a .position) (x .left)
     ] in
-    exit-free (a .list .now) (a .modes .now) (a .entered .now) (a .svid) (a .position) _ (c .before .before .before .before .place-of .ensures) (c .before .before .before .if1 .left) allowed
+    exit-free (a .list .now) (a .modes .now) (a .entered .now) (a .svid) (a .position) _ (place-of .ensures) (c .before .before .before .if1 .left) allowed
     (sym (c .before .is-entered .ensures) ∙ c .if4 .taken)
 
 returns-4 : tie.Need-returns-4
-returns-4 c = let a = c .before .before .before .before .before .before .before .before .args in
-    let allowed : (eqb (a .position) 7 || hasMode (a .modes .now) (c .before .before .before .before .place-of .result) (a .position)) ≡ true =
+returns-4 c =
+    let place-of = c .before .before .before .before .place-of in
+    let a = c .before .before .before .before .before .before .before .before .args in
+    let allowed : (eqb (a .position) 7 || hasMode (a .modes .now) (place-of .result) (a .position)) ≡ true =
     elim (c .before .before .if2 .came) [
-      | inl x ↦ exit-mode (a .modes .now) (c .before .before .before .before .place-of .result) (a .position) (x .0 .taken) (sym (x .1 .ensures) ∙ not-false _ (x .2 .left))
-      | inr x ↦ exit-seven (a .modes .now) (c .before .before .before .before .place-of .result) (a .position) (x .left)
+      | inl x ↦ exit-mode (a .modes .now) (place-of .result) (a .position) (x .0 .taken) (sym (x .1 .ensures) ∙ not-false _ (x .2 .left))
+      | inr x ↦ exit-seven (a .modes .now) (place-of .result) (a .position) (x .left)
     ] in
-    exit-never (a .list .now) (a .modes .now) (a .entered .now) (a .svid) (a .position) _ (c .before .before .before .before .place-of .ensures) (c .before .before .before .if1 .left) allowed
+    exit-never (a .list .now) (a .modes .now) (a .entered .now) (a .svid) (a .position) _ (place-of .ensures) (c .before .before .before .if1 .left) allowed
     (sym (c .before .is-entered .ensures) ∙ c .if4 .left)
 
 pub exit-refusal-spec : {M : Type 1} → statement M

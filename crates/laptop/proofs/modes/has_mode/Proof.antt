@@ -11,7 +11,9 @@ set-at-requires : tie.Need-set-at-requires
 set-at-requires c κs = search needs
 
 returns-2 : tie.Need-returns-2
-returns-2 c = has-by (c .before .before .before .args .modes .now) (c .before .before .before .args .place) (c .before .before .before .args .position) _ (c .before .if1 .left) (c .set-at .ensures)
+returns-2 c =
+    let a = c .before .before .before .args in
+    has-by (a .modes .now) (a .place) (a .position) _ (c .before .if1 .left) (c .set-at .ensures)
 
 pub has-mode-spec : {M : Type 1} → statement M
 has-mode-spec = tie.close (tie.spec returns set-at-requires returns-2)

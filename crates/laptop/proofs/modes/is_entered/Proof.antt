@@ -11,7 +11,9 @@ named-requires : tie.Need-named-requires
 named-requires c κs = search needs
 
 returns : tie.Need-returns
-returns c = entered-by (c .before .before .before .args .entered .now) (c .before .before .before .args .place) (c .before .before .before .args .position) _ _ (c .before .set-at .ensures) (c .named .ensures)
+returns c =
+    let a = c .before .before .before .args in
+    entered-by (a .entered .now) (a .place) (a .position) _ _ (c .before .set-at .ensures) (c .named .ensures)
 
 pub is-entered-spec : {M : Type 1} → statement M
 is-entered-spec = tie.close (tie.spec set-at-requires named-requires returns)

@@ -24,7 +24,9 @@ first-svids-requires-2 : tie.Need-first-svids-requires-2
 first-svids-requires-2 c κs = search needs
 
 returns-2 : tie.Need-returns-2
-returns-2 c = c .first-svids2 .ensures ∙ held-some (c .before .before .before .before .before .before .args .held) _ (c .before .before .before .before .before .before .args .held-svids .now) (c .before .before .before .held .given .1)
+returns-2 c =
+    let a = c .before .before .before .before .before .before .args in
+    c .first-svids2 .ensures ∙ held-some (a .held) _ (a .held-svids .now) (c .before .before .before .held .given .1)
 
 pub held-list-spec : {M : Type 1} → statement M
 held-list-spec =

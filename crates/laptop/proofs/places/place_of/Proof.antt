@@ -24,7 +24,10 @@ shared-slice-read-if1 : tie.Need-shared-slice-read-if1 Inv-loop μ-loop
 shared-slice-read-if1 c = omega arith
 
 returns : tie.Need-returns Inv-loop μ-loop
-returns c = place-found (c .before .before .before .before .args .svid) (c .before .before .before .before .args .list .now) (c .before .before .before .loop .i) (c .before .before .loop-test .taken) (c .if1 .taken) (c .before .before .before .loop .inv .1)
+returns c =
+    let a = c .before .before .before .before .args in
+    let loop = c .before .before .before .loop in
+    place-found (a .svid) (a .list .now) (loop .i) (c .before .before .loop-test .taken) (c .if1 .taken) (loop .inv .1)
 
 add-i : tie.Need-add-i Inv-loop μ-loop
 add-i c = omega arith
@@ -33,7 +36,10 @@ loop-less : tie.Need-loop-less Inv-loop μ-loop
 loop-less c = omega arith
 
 loop-again : tie.Need-loop-again Inv-loop μ-loop
-loop-again c = (omega arith, place-next (c .before .before .before .before .args .svid) (c .before .before .before .before .args .list .now) (c .before .before .before .loop .i) (c .before .before .loop-test .taken) (c .if1 .left) (c .before .before .before .loop .inv .1))
+loop-again c =
+    let a = c .before .before .before .before .args in
+    let loop = c .before .before .before .loop in
+    (omega arith, place-next (a .svid) (a .list .now) (loop .i) (c .before .before .loop-test .taken) (c .if1 .left) (loop .inv .1))
 
 returns-2 : tie.Need-returns-2 Inv-loop μ-loop
 returns-2 c = place-none (c .before .before .args .svid) (c .before .before .args .list .now) (c .before .loop .i) (c .loop-test .left) (c .before .loop .inv .1)

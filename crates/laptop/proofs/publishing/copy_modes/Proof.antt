@@ -30,13 +30,19 @@ loop-less : tie.Need-loop-less Inv-loop μ-loop
 loop-less c = omega arith
 
 loop-again : tie.Need-loop-again Inv-loop μ-loop
-loop-again c = (omega arith, ap length (c .before .before .copy-word .ensures) ∙ length-copied-to (c .before .before .before .before .before .before .before .before .before .args .modes .now) (c .before .before .before .before .before .before .before .before .before .args .run .now) (c .before .before .before .before .before .loop .held-run) (c .before .before .before .before .before .loop .k) ∙ c .before .before .before .before .before .loop .inv .1, c .before .before .before .before .before .loop .inv .2 ∙ copy-step (c .before .before .before .before .before .before .before .before .before .args .modes .now) (c .before .before .before .before .before .before .before .before .before .args .run .now) (c .before .before .before .before .before .loop .held-run) _ (c .before .before .before .before .before .loop .k) (omega arith) (c .before .before .copy-word .ensures))
+loop-again c =
+    let a = c .before .before .before .before .before .before .before .before .before .args in
+    let loop = c .before .before .before .before .before .loop in
+    let copy-word = c .before .before .copy-word in
+    (omega arith, ap length (copy-word .ensures) ∙ length-copied-to (a .modes .now) (a .run .now) (loop .held-run) (loop .k) ∙ loop .inv .1, loop .inv .2 ∙ copy-step (a .modes .now) (a .run .now) (loop .held-run) _ (loop .k) (omega arith) (copy-word .ensures))
 
 same-length : tie.Need-same-length Inv-loop μ-loop
 same-length c = c .before .loop .inv .1
 
 returns : tie.Need-returns Inv-loop μ-loop
-returns c = sym (c .before .loop .inv .2 ∙ copy-end (c .before .before .before .before .before .args .modes .now) (c .before .before .before .before .before .args .run .now) (c .before .loop .held-run) (c .before .loop .k) (omega arith))
+returns c =
+    let a = c .before .before .before .before .before .args in
+    sym (c .before .loop .inv .2 ∙ copy-end (a .modes .now) (a .run .now) (c .before .loop .held-run) (c .before .loop .k) (omega arith))
 
 pub copy-modes-spec : {M : Type 1} → statement M
 copy-modes-spec =

@@ -24,10 +24,14 @@ same-length : tie.Need-same-length
 same-length c = search needs
 
 returns : tie.Need-returns
-returns c = copy-mode (c .before .before .before .before .before .before .args .modes .now) (c .before .before .before .before .before .before .args .run .now) (c .before .before .before .before .before .before .args .held-run .now) (c .before .before .before .before .before .before .args .k) (sym (c .before .before .is-mode .ensures) ∙ c .before .if1 .taken)
+returns c =
+    let a = c .before .before .before .before .before .before .args in
+    copy-mode (a .modes .now) (a .run .now) (a .held-run .now) (a .k) (sym (c .before .before .is-mode .ensures) ∙ c .before .if1 .taken)
 
 returns-2 : tie.Need-returns-2
-returns-2 c = copy-none (c .before .before .before .before .before .args .modes .now) (c .before .before .before .before .before .args .run .now) (c .before .before .before .before .before .args .held-run .now) (c .before .before .before .before .before .args .k) (sym (c .before .is-mode .ensures) ∙ c .if1 .left)
+returns-2 c =
+    let a = c .before .before .before .before .before .args in
+    copy-none (a .modes .now) (a .run .now) (a .held-run .now) (a .k) (sym (c .before .is-mode .ensures) ∙ c .if1 .left)
 
 pub copy-word-spec : {M : Type 1} → statement M
 copy-word-spec =

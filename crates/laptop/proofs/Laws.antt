@@ -1,0 +1,34 @@
+-- What the laptop keeps, by the promises of its calls.
+use mathlib.Core.Path.{_≡_, sym, _∙_}
+use mathlib.Core.List.{List}
+use Prim.Native.Nat.{ℕ}
+use lib.ListN.{length, replicate}
+use Rattle.laptop.specs.Calls.{Decision, Stepped}
+use Rattle.laptop.specs.Done.{Call, message, next, startOver, drop, enter, exit, timer, protocolError, done}
+use Rattle.laptop.specs.State.{Memory, freshLaptop}
+use Rattle.laptop.specs.WellFormed.{Lent, WellFormed}
+use Rattle.laptop.specs.declared.Laptop.{Laptop}
+use Rattle.laptop.specs.declared.Step.{Step}
+use Rattle.laptop.proofs.Answering.{message-keeps}
+use Rattle.laptop.proofs.Keeping.{step-formed, next-keeps, start-keeps, drop-keeps, enter-keeps, exit-keeps, timer-keeps, error-keeps, fresh-formed}
+
+-- a well-formed laptop is well-formed after every call
+pub keeps : (c : Call) (l : Laptop) (m : Memory) (out : List ℕ) → WellFormed l m →
+    WellFormed (done c l m out .step .laptop) (done c l m out .after)
+keeps (message bytes) l m out w = message-keeps l m w bytes
+keeps next l m out w = step-formed l m w _ (next-keeps l m w) (length out)
+keeps startOver l m out w = step-formed l m w _ (start-keeps l m w) (length out)
+keeps drop l m out w = step-formed l m w _ (drop-keeps l m w) (length out)
+keeps (enter svid position) l m out w = step-formed l m w _ (enter-keeps l m w svid position) (length out)
+keeps (exit svid position) l m out w = step-formed l m w _ (exit-keeps l m w svid position) (length out)
+keeps (timer first last) l m out w = step-formed l m w _ (timer-keeps l m w first last (l .wait)) (length out)
+keeps protocolError l m out w = step-formed l m w _ (error-keeps l m w (l .wait)) (length out)
+
+-- and so is a fresh one
+pub fresh : (m : Memory) → Lent m → m .entered ≡ replicate 72 0 → WellFormed freshLaptop m
+fresh m lent e = fresh-formed m lent e
+
+-- a result that a promise allows is the only one
+pub step-only : (l : Laptop) (decision : Decision) (out : List ℕ) (s s′ : Step) (after after′ : List ℕ) →
+    Stepped l decision out s after → Stepped l decision out s′ after′ → (s ≡ s′) × (after ≡ after′)
+step-only l decision out s s′ after after′ p p′ = (p .step-is ∙ sym (p′ .step-is), p .buffer-is ∙ sym (p′ .buffer-is))

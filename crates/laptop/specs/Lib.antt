@@ -2,11 +2,8 @@
 pub mod Answers
 pub mod Calls
 pub mod Catalogue
-pub mod Done
 pub mod Hearing
-pub mod Holding
 pub mod Marks
 pub mod Owner
 pub mod State
 pub mod Timers
-pub mod WellFormed

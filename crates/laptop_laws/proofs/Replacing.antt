@@ -16,23 +16,23 @@ use Rattle.messages.specs.declared.request.Request.{Request}
 use Rattle.pages.specs.Pages.{halves}
 use Rattle.pages.specs.declared.taking.Verdict.{Verdict}
 use Rattle.pages.specs.declared.taking.Verdict.the-variants.{Bad, Repeat, More, Ends}
 use Rattle.laptop.specs.Answers.{Opening, Gathering, Filling, Marking, hearIdentity, unlessLast, takeAs, takePage, hearSvids, storeModes, hearModes, hearMode, isWhole}
 use Rattle.laptop.specs.Calls.{Decision, refuses, turns, sends, refusedBy, sentBy, stepOf, unless, shortRuns}
-use Rattle.laptop.specs.Done.{Call, message, next, startOver, drop, enter, exit, timer, protocolError, done}
+use Rattle.laptop_laws.specs.Done.{Call, message, next, startOver, drop, enter, exit, timer, protocolError, done}
 use Rattle.laptop.specs.Hearing.{Result, hearRequest, fits, isLatePage, hearUnawaited, withOpening, withMarking, settledStep, settledList, settledRun, settled, hearAnswer, hear, heard}
-use Rattle.laptop.specs.Holding.{Holding, holding, candidateHeld, KeptOrPublished}
+use Rattle.laptop_laws.specs.Holding.{Holding, holding, candidateHeld, KeptOrPublished}
 use Rattle.laptop.specs.Owner.{asksNext, decideNext, decideStartOver, decideDrop, decideEnter, decideExit}
 use Rattle.laptop.specs.State.{Memory, memory, withPages, counted}
 use Rattle.laptop.specs.Timers.{over, decideTimer, decideError}
 use Rattle.laptop.specs.declared.Candidate.{Candidate}
 use Rattle.laptop.specs.declared.Candidate.the-variants.{Absent, Open, Done}
 use Rattle.laptop.specs.declared.Held.{Held}
 use Rattle.laptop.specs.declared.Laptop.{Laptop}
 use Rattle.laptop.specs.declared.Step.{Step}
 use Rattle.laptop.specs.declared.Told.{Told}
 use Rattle.laptop.specs.declared.Told.the-variants.{Timer, ProtocolError}
 use Rattle.laptop.specs.declared.Wait.{Wait}
 use Rattle.laptop.specs.declared.Wait.the-variants.{Nothing, Answer}
 
 -- a decision leaves what is held
 abbrev Keeps : Laptop → Decision → Type 0

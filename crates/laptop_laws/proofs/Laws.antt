@@ -3,14 +3,14 @@ use mathlib.Core.Path.{_≡_, sym, _∙_}
 use mathlib.Core.List.{List}
 use Prim.Native.Nat.{ℕ}
 use lib.ListN.{length, replicate}
 use Rattle.laptop.specs.Calls.{Decision, Stepped}
-use Rattle.laptop.specs.Done.{Call, message, next, startOver, drop, enter, exit, timer, protocolError, done}
+use Rattle.laptop_laws.specs.Done.{Call, message, next, startOver, drop, enter, exit, timer, protocolError, done}
 use Rattle.laptop.specs.State.{Memory, freshLaptop}
-use Rattle.laptop.specs.WellFormed.{Lent, WellFormed}
+use Rattle.laptop_laws.specs.WellFormed.{Lent, WellFormed}
 use Rattle.laptop.specs.declared.Laptop.{Laptop}
 use Rattle.laptop.specs.declared.Step.{Step}
-use Rattle.laptop.proofs.Answering.{message-keeps}
-use Rattle.laptop.proofs.Keeping.{step-formed, next-keeps, start-keeps, drop-keeps, enter-keeps, exit-keeps, timer-keeps, error-keeps, fresh-formed}
+use Rattle.laptop_laws.proofs.Answering.{message-keeps}
+use Rattle.laptop_laws.proofs.Keeping.{step-formed, next-keeps, start-keeps, drop-keeps, enter-keeps, exit-keeps, timer-keeps, error-keeps, fresh-formed}
 
 -- a well-formed laptop is well-formed after every call
 pub keeps : (c : Call) (l : Laptop) (m : Memory) (out : List ℕ) → WellFormed l m →

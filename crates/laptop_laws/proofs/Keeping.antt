@@ -11,20 +11,20 @@ use borrow.Author.Tests.{eqb-true, eqb-false}
 use Rattle.messages.specs.Layout.{messageBytes}
 use Rattle.messages.specs.Writing.{writeRefusal}
 use Rattle.messages.specs.declared.request.Request.{Request}
 use Rattle.laptop.specs.Calls.{Decision, refuses, turns, sends, refusedBy, sentBy, stepOf, unless}
 use Rattle.laptop.specs.Catalogue.{heldList}
 use Rattle.laptop.specs.Marks.{placeOf, isEntered}
 use Rattle.laptop.specs.Owner.{ownerRefusal, anyEntered, askingRefusal, asksNext, decideNext, decideStartOver, decideDrop, hasMode, isAbsent, decideEnter, exitRefusal, decideExit}
 use Rattle.laptop.specs.State.{Memory, ended, dropped, awaiting, identityAsked, freshLaptop}
 use Rattle.laptop.specs.Timers.{over, decideTimer, decideError}
-use Rattle.laptop.specs.WellFormed.{Lent, WaitFits, awaitsIdentity, isAsking, WellFormed}
+use Rattle.laptop_laws.specs.WellFormed.{Lent, WaitFits, awaitsIdentity, isAsking, WellFormed}
 use Rattle.laptop.specs.declared.Candidate.{Candidate}
 use Rattle.laptop.specs.declared.Candidate.the-variants.{Absent, Open, Done}
 use Rattle.laptop.specs.declared.Laptop.{Laptop}
 use Rattle.laptop.specs.declared.Told.{Told}
 use Rattle.laptop.specs.declared.Told.the-variants.{Timer, ProtocolError}
 use Rattle.laptop.specs.declared.Wait.{Wait}
 use Rattle.laptop.specs.declared.Wait.the-variants.{Nothing, Answer}
 
 -- a candidate is absent where it is said to be
 pub absent-is : (c : Candidate) → isAbsent c ≡ true → c ≡ Absent

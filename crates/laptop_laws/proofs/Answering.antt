@@ -26,27 +26,27 @@ use Rattle.pages.specs.declared.taking.Verdict.{Verdict}
 use Rattle.pages.specs.declared.taking.Verdict.the-variants.{Bad, Repeat, More, Ends}
 use Rattle.pages.proofs.Growing.{more-sound, ends-sound}
 use Rattle.pages.proofs.Sizes.{more-fits, ends-fits}
 use Rattle.laptop.specs.Answers.{Gathering, Filling, filling, Marking, hearIdentity, unlessLast, takeAs, takePage, hearSvids, storeModes, hearModes, hearMode, isDone, isWhole, copied}
 use Rattle.laptop.specs.Catalogue.{heldList}
 use Rattle.laptop.specs.Calls.{refusedBy, turnedTo, shortRuns}
 use Rattle.laptop.specs.Hearing.{Result, hearRequest, fits, isLatePage, hearUnawaited, withOpening, withGathering, withFilling, withMarking, settledStep, settledList, settledRun, settled, hearAnswer, hear, heard}
 use Rattle.laptop.specs.Marks.{placeOf, named, markedBy, marksAfter}
 use Rattle.laptop.specs.Owner.{anyEntered, isAbsent}
 use Rattle.laptop.specs.State.{Memory, memory, gatheredList, ended, dropped, opened, withPages, counted, published}
-use Rattle.laptop.specs.WellFormed.{Listed, HeldFits, CandidateFits, WaitFits, awaitsIdentity, WellFormed}
+use Rattle.laptop_laws.specs.WellFormed.{Listed, HeldFits, CandidateFits, WaitFits, awaitsIdentity, WellFormed}
 use Rattle.laptop.specs.declared.Candidate.{Candidate}
 use Rattle.laptop.specs.declared.Candidate.the-variants.{Absent, Open, Done}
 use Rattle.laptop.specs.declared.Held.{Held}
 use Rattle.laptop.specs.declared.Laptop.{Laptop}
 use Rattle.laptop.specs.declared.Size.{Size}
 use Rattle.laptop.specs.declared.Step.{Step}
 use Rattle.laptop.specs.declared.Told.the-variants.{Nothing as Told·Nothing}
 use Rattle.laptop.specs.declared.Wait.{Wait}
 use Rattle.laptop.specs.declared.Wait.the-variants.{Nothing, Answer}
-use Rattle.laptop.proofs.Copies.{length-copied}
-use Rattle.laptop.proofs.Keeping.{dropped-formed}
+use Rattle.laptop_laws.proofs.Copies.{length-copied}
+use Rattle.laptop_laws.proofs.Keeping.{dropped-formed}
 use Rattle.laptop.proofs.Listing.{counted-more}
 use Rattle.laptop.proofs.Marking.{named-most}
 
 sound-nil : soundList [] ≡ true
 unfolding soundList

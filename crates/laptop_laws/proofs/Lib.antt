@@ -1,0 +1,7 @@
+-- What the laptop keeps, a file for each topic.
+pub mod Answering
+pub mod Copies
+pub mod Keeping
+pub mod Laws
+pub mod Leaves
+pub mod Replacing

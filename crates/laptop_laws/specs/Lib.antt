@@ -1,0 +1,4 @@
+-- The laptop as a whole: every call, what is held, what is well-formed.
+pub mod Done
+pub mod Holding
+pub mod WellFormed

@@ -1,5 +1,5 @@
 -- Scanning a list, one element after the other.
-use mathlib.Core.Path.{_≡_, ap, _∙_}
+use mathlib.Core.Path.{_≡_, refl, ap, _∙_}
 use mathlib.Core.Bool.{Bool, true, false, not, _&&_, _||_}
 use mathlib.Core.List.{List, _∷_}
 use Prim.Native.Nat.{ℕ, _+_, _-_, _<_, _≤_}
@@ -19,11 +19,10 @@ module _ (l : List ℕ) (i : ℕ) (h : i < length l) where
   unfolding isIn
   in-step svid = ap (isIn svid) next
 
-  pub in-found : (svid : ℕ) → getD l i 0 ≡ svid → isIn svid (drop i l) ≡ true
-  in-found svid e = in-step svid ∙ ap (λ (t : Bool). t || isIn svid (drop (i + 1) l)) (eq-eqb _ _ e)
-
-  pub in-next : (svid : ℕ) → (getD l i 0 ≡ svid → ⊥) → isIn svid (drop i l) ≡ isIn svid (drop (i + 1) l)
-  in-next svid e = in-step svid ∙ ap (λ (t : Bool). t || isIn svid (drop (i + 1) l)) (ne-eqb _ _ e)
+  -- found before, at this element, or behind it
+  pub in-next : (found : Bool) (svid : ℕ) → (found || isIn svid (drop i l)) ≡ ((found || eqb (getD l i 0) svid) || isIn svid (drop (i + 1) l))
+  in-next true svid = refl
+  in-next false svid = in-step svid
 
   sound-step :
       soundList (drop i l) ≡ (not (eqb (getD l i 0) 0) && (not (isIn (getD l i 0) (drop (i + 1) l)) && soundList (drop (i + 1) l)))
@@ -41,9 +40,13 @@ module _ (l : List ℕ) (i : ℕ) (h : i < length l) where
   sound-next z e = sound-step ∙ rw (ne-eqb _ _ z, e)
 
 -- at the end nothing is left
-pub in-none : (svid : ℕ) (l : List ℕ) (i : ℕ) → length l ≤ i → isIn svid (drop i l) ≡ false
+in-none : (svid : ℕ) (l : List ℕ) (i : ℕ) → length l ≤ i → isIn svid (drop i l) ≡ false
 unfolding isIn
 in-none svid l i h = ap (isIn svid) (drop-of-length-le l h)
+
+pub in-end : (found : Bool) (svid : ℕ) (l : List ℕ) (i : ℕ) → length l ≤ i → (found || isIn svid (drop i l)) ≡ found
+in-end true svid l i h = refl
+in-end false svid l i h = in-none svid l i h
 
 pub sound-none : (l : List ℕ) (i : ℕ) → length l ≤ i → soundList (drop i l) ≡ true
 unfolding soundList

@@ -3,18 +3,17 @@ ghost use mathlib.Core.Path.{_≡_};
 ghost use lib.ListN.{take};
 ghost use Rattle.pages.specs.Lists.{isIn, soundList};
 
-// Does the list have the SVID?
+// Does the list have the SVID? Each element is looked at, with no way out before the end: the compiler then compares several at a time.
 pub fn is_in(svid: u16, list: &[u16]) -> bool
     ensures { λ r. ⌜ r ≡ isIn svid (now (list .entry)) ⌝ }
 {
+    let mut found = false;
     let mut i = 0;
     while i < list.len() {
-        if list[i] == svid {
-            return true;
-        }
+        found = found | (list[i] == svid);
         i += 1;
     }
-    false
+    found
 }
 
 // None 0, all different.

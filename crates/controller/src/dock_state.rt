@@ -1,0 +1,71 @@
+// The dock's state: its identity objects and its SVIDs in arrays, and seven numbers: how many objects, how many SVIDs and the present page; where
+// it stands (0 ready, 1 asking, 2 sending an answer, 3 sending a page), with the SVID, command and position of the request it asks for.
+use crate::numbers::low_byte;
+use crate::numbers::request_from;
+use dock::Dock;
+use dock::Standing;
+use dock::Step;
+use messages::Request;
+
+fn standing_from(tag: u16, request: Request) -> Standing {
+    match tag {
+        1 => Standing::Asking(request),
+        2 => Standing::Sending(false),
+        3 => Standing::Sending(true),
+        _ => Standing::Ready,
+    }
+}
+
+pub(crate) fn dock_from(state: [u16; 7], identity: &[u32; 6], svids: &[u16; 72]) -> Dock {
+    let objects = *identity;
+    let list = *svids;
+    Dock {
+        identity: objects,
+        objects: low_byte(state[0]),
+        svids: list,
+        count: low_byte(state[1]),
+        page: low_byte(state[2]),
+        standing: standing_from(state[3], request_from(state[4], state[5], state[6])),
+    }
+}
+
+fn standing_numbers(standing: Standing) -> [u16; 4] {
+    match standing {
+        Standing::Ready => [0, 0, 0, 0],
+        Standing::Asking(request) => [
+            1,
+            request.svid,
+            request.command as u16,
+            request.position as u16,
+        ],
+        Standing::Sending(page) => {
+            if page {
+                return [3, 0, 0, 0];
+            }
+            [2, 0, 0, 0]
+        }
+    }
+}
+
+pub(crate) fn dock_numbers(dock: Dock) -> [u16; 7] {
+    let stands = dock.standing;
+    let standing = standing_numbers(stands);
+    [
+        dock.objects as u16,
+        dock.count as u16,
+        dock.page as u16,
+        standing[0],
+        standing[1],
+        standing[2],
+        standing[3],
+    ]
+}
+
+// Writes the new state and the number of bytes to send into what was lent, and gives the refusal number.
+pub(crate) fn hand_over(step: Step, state: &mut [u16; 7], length: &mut u8) -> u8 {
+    let dock = step.dock;
+    let after = dock_numbers(dock);
+    *state = after;
+    *length = step.length;
+    step.refusal
+}

@@ -1,0 +1,101 @@
+// The owner's calls.
+use crate::laptop_state::laptop_from;
+use crate::told::hand_over;
+
+#[no_mangle]
+pub extern "C" fn laptop_next(
+    state: &mut [u16; 12],
+    svids: &[u16; 72],
+    entered: &[u8; 72],
+    run: &[u32],
+    held_run: &[u32],
+    out: &mut [u8],
+    handed: &mut [u32; 7],
+) -> u8 {
+    let before = *state;
+    let step = laptop::next(laptop_from(before), svids, entered, run, held_run, out);
+    hand_over(step, state, handed)
+}
+
+#[no_mangle]
+pub extern "C" fn laptop_start_over(
+    state: &mut [u16; 12],
+    entered: &[u8; 72],
+    run: &[u32],
+    held_run: &[u32],
+    out: &mut [u8],
+    handed: &mut [u32; 7],
+) -> u8 {
+    let before = *state;
+    let step = laptop::start_over(laptop_from(before), entered, run, held_run, out);
+    hand_over(step, state, handed)
+}
+
+#[no_mangle]
+pub extern "C" fn laptop_drop(
+    state: &mut [u16; 12],
+    run: &[u32],
+    held_run: &[u32],
+    out: &mut [u8],
+    handed: &mut [u32; 7],
+) -> u8 {
+    let before = *state;
+    let step = laptop::drop(laptop_from(before), run, held_run, out);
+    hand_over(step, state, handed)
+}
+
+#[no_mangle]
+pub extern "C" fn laptop_enter(
+    state: &mut [u16; 12],
+    svid: u16,
+    position: u8,
+    held_svids: &[u16; 72],
+    held_modes: &[u8; 72],
+    entered: &[u8; 72],
+    run: &[u32],
+    held_run: &[u32],
+    out: &mut [u8],
+    handed: &mut [u32; 7],
+) -> u8 {
+    let before = *state;
+    let step = laptop::enter(
+        laptop_from(before),
+        svid,
+        position,
+        held_svids,
+        held_modes,
+        entered,
+        run,
+        held_run,
+        out,
+    );
+    hand_over(step, state, handed)
+}
+
+#[no_mangle]
+pub extern "C" fn laptop_exit(
+    state: &mut [u16; 12],
+    svid: u16,
+    position: u8,
+    held_svids: &[u16; 72],
+    held_modes: &[u8; 72],
+    entered: &[u8; 72],
+    run: &[u32],
+    held_run: &[u32],
+    out: &mut [u8],
+    handed: &mut [u32; 7],
+) -> u8 {
+    let before = *state;
+    let step = laptop::exit(
+        laptop_from(before),
+        svid,
+        position,
+        held_svids,
+        held_modes,
+        entered,
+        run,
+        held_run,
+        out,
+    );
+    hand_over(step, state, handed)
+}

@@ -1,0 +1,220 @@
+//! Taking a page: the laptop's message call on recorded pages, both sides' answers, then their
+//! speed by kind of page.
+
+use crate::plain;
+use crate::proved;
+use crate::rounds;
+use second::messages::{write, Request, ACK, OBJECT_BYTES, PD_SID, SVIDS};
+use second::pages::{page, MOST_SVIDS, PAGE_SVIDS};
+use second::random::Random;
+use second::refusals::ACCEPTED;
+use std::hint::black_box;
+
+const SEED: u64 = 0x5EED_0000_0000_0003;
+/// Lists of 72 SVIDs, a laptop for each.
+const LISTS: usize = 16;
+/// Pages of each kind.
+const PAGES: usize = 20_000;
+const FULL_PAGES: usize = MOST_SVIDS / PAGE_SVIDS;
+const IDENTITY_OBJECTS: u8 = 3;
+const FIRST_HALF: u32 = 16;
+
+const AWAITED: Request = Request {
+    svid: PD_SID,
+    command: SVIDS,
+    position: 0,
+};
+
+#[derive(Clone, Copy, Debug)]
+enum Kind {
+    Full,
+    Repeat,
+    Ending,
+    Bad,
+}
+
+/// A page that comes when so many SVIDs of the list are gathered. Taking it leaves the array as it
+/// was, since what it adds stands there already.
+struct Input {
+    list: usize,
+    gathered: u8,
+    bytes: Vec<u8>,
+}
+
+impl Input {
+    fn draw(kind: Kind, lists: &[Vec<u16>], random: &mut Random) -> Self {
+        let list = random.below(LISTS);
+        let svids = &lists[list];
+        let number = random.below(FULL_PAGES);
+        let (gathered, mut objects) = match kind {
+            Kind::Full | Kind::Bad => (number, page(svids, number).objects),
+            Kind::Repeat => (number + 1, page(svids, number).objects),
+            Kind::Ending => {
+                let count = number * PAGE_SVIDS + 1 + random.below(PAGE_SVIDS - 1);
+                (number, page(&svids[..count], number).objects)
+            }
+        };
+        if let Kind::Bad = kind {
+            let last = objects.len() - 1;
+            objects[last] = u32::from(svids[0]) << FIRST_HALF | objects[0] >> FIRST_HALF;
+        }
+        Input {
+            list,
+            gathered: (gathered * PAGE_SVIDS) as u8,
+            bytes: acknowledged(&objects),
+        }
+    }
+}
+
+fn acknowledged(objects: &[u32]) -> Vec<u8> {
+    let mut bytes = vec![0; (1 + objects.len()) * OBJECT_BYTES];
+    let answer = write(PD_SID, SVIDS, ACK, 0, objects, &mut bytes);
+    assert_eq!(answer, ACCEPTED);
+    bytes
+}
+
+fn proved_state(gathered: u8) -> proved::State {
+    let mut state = [0; 12];
+    state[..4].copy_from_slice(&[1, PD_SID, SVIDS.into(), 0]);
+    state[4..7].copy_from_slice(&[1, IDENTITY_OBJECTS.into(), gathered.into()]);
+    state
+}
+
+fn plain_state(gathered: u8) -> plain::State {
+    plain::State {
+        awaited: Some(AWAITED),
+        stage: plain::Stage::ListOpen,
+        gathered: plain::Size {
+            objects: IDENTITY_OBJECTS,
+            count: gathered,
+        },
+        filled: 0,
+        pages: 0,
+        held: None,
+    }
+}
+
+/// The plain state as the proved library's numbers.
+fn numbers(state: &plain::State) -> proved::State {
+    let awaited = state.awaited.map_or([0; 4], |request| {
+        [
+            1,
+            request.svid,
+            request.command.into(),
+            request.position.into(),
+        ]
+    });
+    let held = state
+        .held
+        .map_or([0; 3], |size| [1, size.objects.into(), size.count.into()]);
+    let between = [
+        state.stage as u16,
+        state.gathered.objects.into(),
+        state.gathered.count.into(),
+        state.filled.into(),
+        state.pages.into(),
+    ];
+    let mut numbers = [0; 12];
+    numbers[..4].copy_from_slice(&awaited);
+    numbers[4..9].copy_from_slice(&between);
+    numbers[9..].copy_from_slice(&held);
+    numbers
+}
+
+struct Sides {
+    proved: Vec<proved::Memory>,
+    plain: Vec<plain::Laptop>,
+}
+
+impl Sides {
+    fn with(lists: &[Vec<u16>]) -> Self {
+        let mut sides = Sides {
+            proved: Vec::new(),
+            plain: Vec::new(),
+        };
+        for list in lists {
+            let mut memory = proved::Memory::empty();
+            memory.svids.copy_from_slice(list);
+            sides.proved.push(memory);
+            let mut laptop = plain::Laptop::awaiting(plain_state(0));
+            laptop.candidate.svids.copy_from_slice(list);
+            sides.plain.push(laptop);
+        }
+        sides
+    }
+
+    /// Gives the answer, and panics where the sides differ.
+    fn compare(&mut self, input: &Input) -> u8 {
+        let (mut proved_handed, mut plain_handed) = ([9; 7], [9; 7]);
+        let mut state = proved_state(input.gathered);
+        let memory = &mut self.proved[input.list];
+        let number = memory.message(&mut state, &input.bytes, &mut proved_handed);
+        let laptop = &mut self.plain[input.list];
+        laptop.state = plain_state(input.gathered);
+        let other = laptop.message(&input.bytes, &mut plain_handed);
+        assert_eq!(
+            (number, state, memory.svids, proved_handed),
+            (
+                other,
+                numbers(&laptop.state),
+                laptop.candidate.svids,
+                plain_handed
+            ),
+            "proved (left) and Rust (right) differ on {:02X?} after {} SVIDs",
+            input.bytes,
+            input.gathered
+        );
+        number
+    }
+}
+
+fn proved_round(laptops: &mut [proved::Memory], inputs: &[Input]) {
+    let mut handed = [0; 7];
+    for input in inputs {
+        let mut state = proved_state(input.gathered);
+        black_box(laptops[input.list].message(&mut state, &input.bytes, &mut handed));
+        black_box((&state, &handed));
+    }
+}
+
+fn plain_round(laptops: &mut [plain::Laptop], inputs: &[Input]) {
+    let mut handed = [0; 7];
+    for input in inputs {
+        let laptop = &mut laptops[input.list];
+        laptop.state = plain_state(input.gathered);
+        black_box(laptop.message(&input.bytes, &mut handed));
+        black_box((&laptop.state, &handed));
+    }
+}
+
+pub fn measure() {
+    let mut random = Random::from_seed(SEED);
+    let lists: Vec<Vec<u16>> = (0..LISTS)
+        .map(|_| random.different_svids(MOST_SVIDS))
+        .collect();
+    let mut sides = Sides::with(&lists);
+    let mut all = Vec::new();
+    for kind in [Kind::Full, Kind::Repeat, Kind::Ending, Kind::Bad] {
+        let inputs: Vec<Input> = (0..PAGES)
+            .map(|_| Input::draw(kind, &lists, &mut random))
+            .collect();
+        let refused = inputs
+            .iter()
+            .filter(|input| sides.compare(input) != ACCEPTED)
+            .count();
+        println!("\n{kind:?}: taking {PAGES} pages, both sides answer alike, {refused} refused");
+        time(&mut sides, &inputs);
+        all.extend(inputs);
+    }
+    println!("\nall {} pages", all.len());
+    time(&mut sides, &all);
+}
+
+fn time(sides: &mut Sides, inputs: &[Input]) {
+    let Sides { proved, plain } = sides;
+    rounds::compare(
+        inputs.len(),
+        || proved_round(proved, inputs),
+        || plain_round(plain, inputs),
+    );
+}

@@ -1,0 +1,62 @@
+"""Prints the stack of each public call: its frame, the deepest chain of frames from it down, and the way."""
+import pathlib
+import re
+import sys
+
+import disassembly
+import frames
+
+MOST = 1024
+LIBRARY = "target/staticlib/libcontroller.a"
+EXPORTED = re.compile(r'#\[no_mangle\]\s+pub extern "C" fn (\w+)')
+PUBLIC = re.compile(r"^pub (?:use \w+::|fn )([a-z]\w*)", re.MULTILINE)
+# No call of 01: the list that `report` and `write_catalogue` read, in whose frames it is counted.
+PARTS = {"laptop::held_list"}
+
+
+def sources(root, crate):
+    return "\n".join(path.read_text() for path in sorted((root / "crates" / crate / "src").glob("*.rt")))
+
+
+def public_calls(root):
+    for crate in ("dock", "laptop", "catalogue"):
+        for name in PUBLIC.findall((root / "crates" / crate / "src/lib.rt").read_text()):
+            yield f"{crate}::{name}"
+
+
+def complaints(root, exported, library):
+    """What is missing: a public call that nothing exports, or an exported function that the library lacks."""
+    text = sources(root, "controller")
+    for call in public_calls(root):
+        if call not in PARTS and f"{call}(" not in text:
+            yield f"{call} is public, and the crate controller does not export it"
+    for name in exported:
+        if name not in library.functions:
+            yield f"{name} is not in {LIBRARY}"
+
+
+def main(root):
+    library = disassembly.read(str(root / LIBRARY))
+    exported = EXPORTED.findall(sources(root, "controller"))
+    faults = list(complaints(root, exported, library))
+    known, chains = {}, {}
+    print(f"{'call':22} {'frame':>5} {'chain':>6}  way down")
+    for name in exported:
+        try:
+            chains[name], way = frames.chain(name, library, known)
+        except frames.Uncounted as fault:
+            faults.append(str(fault))
+            continue
+        print(f"{name:22} {known[name].size:5} {chains[name]:6}  {' > '.join(way)}")
+        if chains[name] > MOST:
+            faults.append(f"{name} takes {chains[name]} bytes, over {MOST}")
+    for fault in faults:
+        print(f"stack: {fault}", file=sys.stderr)
+    if chains:
+        deepest = max(chains, key=chains.get)
+        print(f"deepest: {chains[deepest]} bytes in {deepest}")
+    return 1 if faults or not chains else 0
+
+
+if __name__ == "__main__":
+    sys.exit(main(pathlib.Path(sys.argv[1])))

@@ -23,7 +23,7 @@ pub fn half_of(low: u8, high: u8) -> u16 {
     (low as u16) + (high as u16) * 256
 }
 
-fn word_of(bytes: &[u8; 4]) -> u32 {
+pub fn word_of(bytes: &[u8; 4]) -> u32 {
     let low = half_of(bytes[0], bytes[1]);
     let high = half_of(bytes[2], bytes[3]);
     (low as u32) + (high as u32) * 65536

@@ -37,10 +37,27 @@ pub fn append(line: &mut [u8], at: usize, text: &[u8]) -> usize {
     end
 }
 
+// A number below 2 ^ 64 has at most so many decimal digits.
+const MOST_DIGITS: usize = 20;
+
+fn digit_of(number: u64) -> u8 {
+    b'0' + (number % 10) as u8
+}
+
+// The library's `io::decimal` divides by a base that it is given; a division by a constant is a multiplication.
 pub fn append_decimal(line: &mut [u8], at: usize, number: u64) -> usize {
-    let mut digits = [0u8; 20];
-    let count = io::decimal(number, &mut digits);
-    append(line, at, &digits[0..count])
+    let mut digits = [b'0'; MOST_DIGITS];
+    let mut first = MOST_DIGITS;
+    let mut rest = number;
+    while 0 < first {
+        first -= 1;
+        digits[first] = digit_of(rest);
+        rest = rest / 10;
+        if rest == 0 {
+            return append(line, at, &digits[first..]);
+        }
+    }
+    append(line, at, &digits)
 }
 
 // The number has a space before it.
@@ -69,7 +86,7 @@ pub fn append_half(line: &mut [u8], at: usize, half: u16) -> usize {
     append_byte(line, middle, (half % 256) as u8)
 }
 
-fn append_word(line: &mut [u8], at: usize, word: u32) -> usize {
+pub fn append_word(line: &mut [u8], at: usize, word: u32) -> usize {
     let middle = append_half(line, at, (word / 65536) as u16);
     append_half(line, middle, (word % 65536) as u16)
 }

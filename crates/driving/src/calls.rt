@@ -1,0 +1,85 @@
+// The laptop's calls: reading one from standard input, and making it.
+use events::Call;
+use events::Event;
+use events::Found;
+use events::body_length;
+use events::read_event;
+use laptop::Laptop;
+use laptop::Step;
+use text::input::fill;
+
+// A call that was read whole, or why there is none.
+pub enum Taken {
+    Whole(Call),
+    Unknown,
+    Cut,
+}
+
+// The most bytes of an event: a kind, and seven objects.
+const LONGEST_EVENT: usize = 29;
+
+fn call_in(bytes: &[u8]) -> Taken {
+    let found = read_event(bytes);
+    let Found::Whole(event, _) = found else {
+        return Taken::Unknown;
+    };
+    let Event::Call(call) = event else {
+        return Taken::Unknown;
+    };
+    Taken::Whole(call)
+}
+
+// The call of a kind, with its body from standard input. The kind stands first, and the body is read behind it.
+pub fn take_call(kind: u8) -> Taken {
+    let mut buffer = [kind; LONGEST_EVENT];
+    let end = 1 + body_length(kind);
+    let event = &mut buffer[0..end];
+    if !fill(&mut event[1..]) {
+        return Taken::Cut;
+    }
+    call_in(event)
+}
+
+pub fn make_call(
+    laptop: Laptop,
+    call: Call,
+    svids: &[u16; 72],
+    run: &[u32],
+    held_svids: &[u16; 72],
+    held_modes: &[u8; 72],
+    held_run: &[u32],
+    entered: &[u8; 72],
+    out: &mut [u8],
+) -> Step {
+    match call {
+        Call::Next => laptop::next(laptop, svids, entered, run, held_run, out),
+        Call::StartOver => laptop::start_over(laptop, entered, run, held_run, out),
+        Call::Drop => laptop::drop(laptop, run, held_run, out),
+        Call::ResponseTimer => laptop::response_timer(laptop),
+        Call::EntryTimer => laptop::entry_timer(laptop),
+        Call::ExitTimer => laptop::exit_timer(laptop),
+        Call::ProtocolError => laptop::protocol_error(laptop),
+        Call::Enter(mode) => laptop::enter(
+            laptop,
+            mode.svid,
+            mode.position,
+            held_svids,
+            held_modes,
+            entered,
+            run,
+            held_run,
+            out,
+        ),
+        Call::Exit(mode) => laptop::exit(
+            laptop,
+            mode.svid,
+            mode.position,
+            held_svids,
+            held_modes,
+            entered,
+            run,
+            held_run,
+            out,
+        ),
+    }
+}

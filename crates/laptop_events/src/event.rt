@@ -1,0 +1,127 @@
+// The events, and reading one from standard input.
+ghost use Prim.Native.Nat.{_≤_};
+use driving::calls::take_call;
+use events::Call;
+use text::input::fill;
+use text::input::half_of;
+use text::input::length_of;
+
+// The kinds of event. From FIRST_CALL to LAST_CALL they are those of the watcher.
+const MESSAGE: u8 = 0x01;
+
+const FIRST_CALL: u8 = 0x40;
+
+const LAST_CALL: u8 = 0x48;
+
+const REPORT: u8 = 0x49;
+
+const CATALOGUE: u8 = 0x4A;
+
+const LENGTHS: u8 = 0x4B;
+
+// A greater number in the stream counts as this one: bytes of a message, bytes of a catalogue's output buffer, words of a run.
+pub const LONGEST_MESSAGE: usize = 40;
+
+pub const CATALOGUE_ROOM: usize = 2500;
+
+pub const RUN: usize = 440;
+
+// How much later calls are lent: bytes of the output buffer, words of the candidate's run and of the held run.
+pub struct Lengths {
+    pub output: u8,
+    pub run: usize,
+    pub held_run: usize,
+}
+
+// A message has its number of bytes, a report its SVID, writing the catalogue the length of its output buffer.
+pub enum Event {
+    Message(usize),
+    Call(Call),
+    Report(u16),
+    Catalogue(usize),
+    Lengths(Lengths),
+}
+
+// The event that stood next, or why there is none.
+pub enum Taken {
+    Whole(Event),
+    Unknown,
+    Cut,
+    Nothing,
+}
+
+pub fn at_most(number: usize, most: usize) -> usize
+    ensures { λ r. ⌜ r ≤ most ⌝ }
+{
+    if number < most { number } else { most }
+}
+
+fn take_message(message: &mut [u8]) -> Taken {
+    let mut length = [0u8; 1];
+    if !fill(&mut length) {
+        return Taken::Cut;
+    }
+    let count = at_most(length_of(length[0]), message.len());
+    if !fill(&mut message[0..count]) {
+        return Taken::Cut;
+    }
+    Taken::Whole(Event::Message(count))
+}
+
+fn take_report() -> Taken {
+    let mut svid = [0u8; 2];
+    if !fill(&mut svid) {
+        return Taken::Cut;
+    }
+    Taken::Whole(Event::Report(half_of(svid[0], svid[1])))
+}
+
+fn length_in(low: u8, high: u8, most: usize) -> usize {
+    at_most(half_of(low, high) as usize, most)
+}
+
+fn take_catalogue() -> Taken {
+    let mut room = [0u8; 2];
+    if !fill(&mut room) {
+        return Taken::Cut;
+    }
+    Taken::Whole(Event::Catalogue(length_in(room[0], room[1], CATALOGUE_ROOM)))
+}
+
+fn take_lengths() -> Taken {
+    let mut bytes = [0u8; 5];
+    if !fill(&mut bytes) {
+        return Taken::Cut;
+    }
+    let lengths = Lengths {
+        output: bytes[0],
+        run: length_in(bytes[1], bytes[2], RUN),
+        held_run: length_in(bytes[3], bytes[4], RUN),
+    };
+    Taken::Whole(Event::Lengths(lengths))
+}
+
+fn take_watcher_call(kind: u8) -> Taken {
+    match take_call(kind) {
+        driving::calls::Taken::Whole(call) => Taken::Whole(Event::Call(call)),
+        driving::calls::Taken::Unknown => Taken::Unknown,
+        driving::calls::Taken::Cut => Taken::Cut,
+    }
+}
+
+// The bytes of a message are put first into the array.
+pub fn take_event(message: &mut [u8; LONGEST_MESSAGE]) -> Taken {
+    let mut kind = [0u8; 1];
+    if !fill(&mut kind) {
+        return Taken::Nothing;
+    }
+    let kind = kind[0];
+    match kind {
+        MESSAGE => take_message(message),
+        FIRST_CALL..=LAST_CALL => take_watcher_call(kind),
+        REPORT => take_report(),
+        CATALOGUE => take_catalogue(),
+        LENGTHS => take_lengths(),
+        _ => Taken::Unknown,
+    }
+}

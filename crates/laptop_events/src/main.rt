@@ -1,0 +1,85 @@
+// Drives the laptop end by the events on standard input, which can lend it runs and buffers of any length: each gets one line.
+mod answering;
+mod event;
+mod report;
+
+use answering::begin;
+use answering::take;
+use event::LONGEST_MESSAGE;
+use event::RUN;
+use event::Taken;
+use event::take_event;
+use libc::STDOUT_FILENO;
+use report::print_event;
+use text::line::print_last;
+
+// What the runs hold at the start, so that a reader sees which words were left alone.
+const UNWRITTEN_WORD: u32 = 0xEEEEEEEE;
+
+// A proved loop has to end, and nothing says that the input does. So after this many events the input counts as ended.
+const MOST_EVENTS: u64 = 1000000;
+
+// What stood where the next event was to be, and how many events were answered before.
+struct Finish {
+    taken: Taken,
+    count: u64,
+}
+
+fn answer_all() -> Finish {
+    let mut svids = [0u16; 72];
+    let mut modes = [0u8; 72];
+    let mut identity = [0u32; 6];
+    let mut run = [UNWRITTEN_WORD; RUN];
+    let mut held_svids = [0u16; 72];
+    let mut held_modes = [0u8; 72];
+    let mut held_identity = [0u32; 6];
+    let mut held_run = [UNWRITTEN_WORD; RUN];
+    let mut entered = [0u8; 72];
+    let mut message = [0u8; LONGEST_MESSAGE];
+    let mut state = begin(laptop::fresh(&mut entered));
+    let mut count: u64 = 0;
+    while count < MOST_EVENTS {
+        let taken = take_event(&mut message);
+        let Taken::Whole(event) = taken else {
+            return Finish { taken, count };
+        };
+        let answer = take(
+            state,
+            event,
+            &message,
+            &mut svids,
+            &mut modes,
+            &mut identity,
+            &mut run,
+            &mut held_svids,
+            &mut held_modes,
+            &mut held_identity,
+            &mut held_run,
+            &mut entered,
+        );
+        state = answer.state;
+        count += 1;
+        print_event(count, answer, &run, &held_run);
+    }
+    Finish {
+        taken: Taken::Nothing,
+        count,
+    }
+}
+
+fn print_finish(finish: Finish) {
+    let taken = finish.taken;
+    match taken {
+        Taken::Unknown => print_last(b"unknown kind after ", finish.count, b" events\n"),
+        Taken::Cut => print_last(b"cut after ", finish.count, b" events\n"),
+        _ => print_last(b"end ", finish.count, b" events\n"),
+    }
+}
+
+fn main() {
+    io::write_all(
+        STDOUT_FILENO,
+        b"event refusal sent output told awaited candidate pages held candidate_run held_run catalogue report\n",
+    );
+    print_finish(answer_all());
+}

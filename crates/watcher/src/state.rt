@@ -1,0 +1,91 @@
+// What stays from event to event: the laptop, the part of the input that is read and not yet taken, and where the lines end that are not yet written.
+use crate::BLOCK;
+use crate::acting::Answer;
+use driving::fields::append_held;
+use driving::fields::append_nothing;
+use laptop::Laptop;
+use text::block::Unread;
+use text::block::make_room;
+use text::block::nothing_read;
+use text::block::refill;
+use text::block::taken;
+use text::block::unread_bytes;
+use text::line::append;
+use text::line::append_decimal;
+use text::line::append_field;
+use text::line::append_word;
+
+// A message of seven objects and its kind.
+const LONGEST_EVENT: usize = 29;
+
+// The longest line: a number of seven digits, a refusal, eight digits of a header, a page count and a number of SVIDs of three digits each, a
+// space before each but the first, and the line end.
+const LONGEST_LINE: usize = 29;
+
+pub struct State {
+    pub laptop: Laptop,
+    pub unread: Unread,
+    pub at: usize,
+}
+
+pub fn begin(laptop: Laptop) -> State {
+    State {
+        laptop,
+        unread: nothing_read(),
+        at: 0,
+    }
+}
+
+// With an event to take, unless the input has ended, and room for its line.
+pub fn ready(state: State, input: &mut [u8; BLOCK], output: &[u8; BLOCK]) -> State {
+    let unread = state.unread;
+    State {
+        unread: refill(input, unread, LONGEST_EVENT),
+        at: make_room(output, state.at, LONGEST_LINE),
+        ..state
+    }
+}
+
+// The bytes that are read and not yet taken.
+pub fn unread(state: State, input: &[u8; BLOCK]) -> &[u8] {
+    let unread = state.unread;
+    unread_bytes(input, unread)
+}
+
+fn append_sent(line: &mut [u8], at: usize, answer: Answer) -> usize {
+    if answer.step.length == 0 {
+        return append_nothing(line, at);
+    }
+    let at = append(line, at, b" ");
+    append_word(line, at, answer.header)
+}
+
+fn append_answer(line: &mut [u8], at: usize, number: u64, answer: Answer) -> usize {
+    let step = answer.step;
+    let laptop = step.laptop;
+    let held = laptop.held;
+    let at = append_decimal(line, at, number);
+    let at = append_field(line, at, step.refusal);
+    let at = append_sent(line, at, answer);
+    let at = append_field(line, at, laptop.pages);
+    let at = append_held(line, at, held);
+    append(line, at, b"\n")
+}
+
+// After the answer to an event: its line is among those to write, and its bytes are taken.
+pub fn answered(
+    state: State,
+    number: u64,
+    answer: Answer,
+    length: usize,
+    output: &mut [u8; BLOCK],
+) -> State {
+    let unread = state.unread;
+    let step = answer.step;
+    let laptop = step.laptop;
+    State {
+        laptop,
+        unread: taken(unread, length),
+        at: append_answer(output, state.at, number, answer),
+    }
+}

@@ -1,0 +1,83 @@
+// The events, and reading one from standard input.
+use driving::calls::take_call;
+use events::Call;
+use text::input::fill;
+
+// The kinds of event. The laptop's calls have those of the watcher.
+const NEXT: u8 = 0x40;
+
+const DROP: u8 = 0x42;
+
+const TIMER: u8 = 0x43;
+
+const PROTOCOL_ERROR: u8 = 0x46;
+
+const EXIT: u8 = 0x48;
+
+const REQUEST_REACHES: u8 = 0x50;
+
+const REQUEST_LOST: u8 = 0x51;
+
+const GIVE: u8 = 0x52;
+
+const BUSY: u8 = 0x53;
+
+const ANSWER_ARRIVES: u8 = 0x54;
+
+const ANSWER_LOST: u8 = 0x55;
+
+const SENT: u8 = 0x56;
+
+const FAILED: u8 = 0x57;
+
+// The timer is that of the awaited command.
+pub enum Event {
+    Call(Call),
+    Timer,
+    RequestReaches,
+    RequestLost,
+    Give,
+    Busy,
+    AnswerArrives,
+    AnswerLost,
+    Sent,
+    Failed,
+}
+
+// The event that stood next, or why there is none.
+pub enum Taken {
+    Whole(Event),
+    Unknown,
+    Cut,
+    Nothing,
+}
+
+fn take_laptop_call(kind: u8) -> Taken {
+    match take_call(kind) {
+        driving::calls::Taken::Whole(call) => Taken::Whole(Event::Call(call)),
+        driving::calls::Taken::Unknown => Taken::Unknown,
+        driving::calls::Taken::Cut => Taken::Cut,
+    }
+}
+
+pub fn take_event() -> Taken {
+    let mut kind = [0u8; 1];
+    if !fill(&mut kind) {
+        return Taken::Nothing;
+    }
+    let kind = kind[0];
+    match kind {
+        NEXT..=DROP => take_laptop_call(kind),
+        TIMER => Taken::Whole(Event::Timer),
+        PROTOCOL_ERROR..=EXIT => take_laptop_call(kind),
+        REQUEST_REACHES => Taken::Whole(Event::RequestReaches),
+        REQUEST_LOST => Taken::Whole(Event::RequestLost),
+        GIVE => Taken::Whole(Event::Give),
+        BUSY => Taken::Whole(Event::Busy),
+        ANSWER_ARRIVES => Taken::Whole(Event::AnswerArrives),
+        ANSWER_LOST => Taken::Whole(Event::AnswerLost),
+        SENT => Taken::Whole(Event::Sent),
+        FAILED => Taken::Whole(Event::Failed),
+        _ => Taken::Unknown,
+    }
+}

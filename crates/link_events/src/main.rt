@@ -1,0 +1,146 @@
+// Joins the laptop end and the dock end by the link of demand 3, drives them by the events on standard input, and prints a line for each.
+mod at_dock;
+mod at_laptop;
+mod begin;
+mod event;
+mod link;
+mod report;
+mod start;
+mod state;
+mod system;
+
+use begin::begin;
+use event::Taken;
+use event::take_event;
+use laptop::RUN_WORDS;
+use libc::STDOUT_FILENO;
+use report::print_event;
+use start::Start;
+use start::read_start;
+use state::State;
+use system::take;
+use text::line::print_last;
+
+// A proved loop has to end, and nothing says that the input does. So after this many events the input counts as ended.
+const MOST_EVENTS: u64 = 1000000;
+
+// What stood where the next event was to be, and how many events were answered before.
+struct Finish {
+    taken: Taken,
+    count: u64,
+}
+
+fn answer_all(
+    begun: State,
+    counts: &[u8; 72],
+    words: &[u32; RUN_WORDS],
+    svids: &mut [u16; 72],
+    modes: &mut [u8; 72],
+    identity: &mut [u32; 6],
+    run: &mut [u32; RUN_WORDS],
+    held_svids: &mut [u16; 72],
+    held_modes: &mut [u8; 72],
+    held_identity: &mut [u32; 6],
+    held_run: &mut [u32; RUN_WORDS],
+    entered: &mut [u8; 72],
+) -> Finish {
+    let mut state = begun;
+    let mut count: u64 = 0;
+    while count < MOST_EVENTS {
+        let taken = take_event();
+        let Taken::Whole(event) = taken else {
+            return Finish { taken, count };
+        };
+        let outcome = take(
+            state,
+            event,
+            counts,
+            words,
+            svids,
+            modes,
+            identity,
+            run,
+            held_svids,
+            held_modes,
+            held_identity,
+            held_run,
+            entered,
+        );
+        state = outcome.state;
+        count += 1;
+        print_event(
+            count,
+            outcome,
+            held_svids,
+            held_modes,
+            held_identity,
+            held_run,
+        );
+    }
+    Finish {
+        taken: Taken::Nothing,
+        count,
+    }
+}
+
+fn answer_from(start: Start, counts: &[u8; 72], words: &[u32; RUN_WORDS]) -> Finish {
+    let mut svids = [0u16; 72];
+    let mut modes = [0u8; 72];
+    let mut identity = [0u32; 6];
+    let mut run = [0u32; RUN_WORDS];
+    let mut held_svids = [0u16; 72];
+    let mut held_modes = [0u8; 72];
+    let mut held_identity = [0u32; 6];
+    let mut held_run = [0u32; RUN_WORDS];
+    let mut entered = [0u8; 72];
+    let state = begin(
+        start,
+        &mut svids,
+        &mut modes,
+        &mut identity,
+        &mut run,
+        &mut held_svids,
+        &mut held_modes,
+        &mut held_identity,
+        &mut held_run,
+        &mut entered,
+    );
+    answer_all(
+        state,
+        counts,
+        words,
+        &mut svids,
+        &mut modes,
+        &mut identity,
+        &mut run,
+        &mut held_svids,
+        &mut held_modes,
+        &mut held_identity,
+        &mut held_run,
+        &mut entered,
+    )
+}
+
+fn print_finish(finish: Finish) {
+    let taken = finish.taken;
+    match taken {
+        Taken::Unknown => print_last(b"unknown kind after ", finish.count, b" events\n"),
+        Taken::Cut => print_last(b"cut after ", finish.count, b" events\n"),
+        _ => print_last(b"end ", finish.count, b" events\n"),
+    }
+}
+
+fn main() {
+    io::write_all(
+        STDOUT_FILENO,
+        b"event permitted refusal pages candidate held catalogue page lost\n",
+    );
+    let mut counts = [0u8; 72];
+    let mut words = [0u32; RUN_WORDS];
+    let start = read_start(&mut counts, &mut words);
+    if start.is_good {
+        print_finish(answer_from(start, &counts, &words));
+        return;
+    }
+    io::write_all(STDOUT_FILENO, b"bad dock data\n");
+}

@@ -1,0 +1,142 @@
+// What a stream begins with: the dock's data, its first page, and whether the laptop holds an old catalogue.
+use dock::Dock;
+use laptop::MODES_EACH;
+use laptop::RUN_WORDS;
+use messages::first_objects;
+use pages::first_svids;
+use text::input::fill;
+use text::input::fill_halves;
+use text::input::fill_words;
+use text::input::length_of;
+
+// The dock is loaded. Where the data is good, `page` is how many pages it has sent before.
+pub struct Start {
+    pub is_good: bool,
+    pub dock: Dock,
+    pub page: u8,
+    pub holds_old: bool,
+}
+
+// A number that was read with what it counts, or one that is cut or past its limit.
+enum Number {
+    Good(u8),
+    Bad,
+}
+
+fn read_number() -> Number {
+    let mut byte = [0u8; 1];
+    if !fill(&mut byte) {
+        return Number::Bad;
+    }
+    Number::Good(byte[0])
+}
+
+// A number, and so many words: at most as many as there is room for.
+fn read_words(words: &mut [u32]) -> Number {
+    let number = read_number();
+    let Number::Good(count) = number else {
+        return Number::Bad;
+    };
+    let end = length_of(count);
+    if words.len() < end {
+        return Number::Bad;
+    }
+    if fill_words(&mut words[0..end]) {
+        return number;
+    }
+    Number::Bad
+}
+
+fn read_halves(halves: &mut [u16]) -> Number {
+    let number = read_number();
+    let Number::Good(count) = number else {
+        return Number::Bad;
+    };
+    let end = length_of(count);
+    if halves.len() < end {
+        return Number::Bad;
+    }
+    if fill_halves(&mut halves[0..end]) {
+        return number;
+    }
+    Number::Bad
+}
+
+// The number of modes of the SVID at the place, which go into its six words; 0 where they are cut, none or too many.
+fn read_modes_at(place: usize, words: &mut [u32]) -> u8 {
+    if 72 <= place {
+        return 0;
+    }
+    let at = place * MODES_EACH;
+    let end = at + MODES_EACH;
+    if words.len() < end {
+        return 0;
+    }
+    let Number::Good(count) = read_words(&mut words[at..end]) else {
+        return 0;
+    };
+    count
+}
+
+fn read_modes(count: usize, counts: &mut [u8; 72], words: &mut [u32; RUN_WORDS]) -> bool {
+    let mut place = 0;
+    while place < count {
+        let modes = read_modes_at(place, words);
+        if modes == 0 {
+            return false;
+        }
+        if place < 72 {
+            counts[place] = modes;
+        }
+        place += 1;
+    }
+    true
+}
+
+fn bad() -> Start {
+    Start {
+        is_good: false,
+        dock: dock::fresh(),
+        page: 0,
+        holds_old: false,
+    }
+}
+
+// The dock's page, and 0 or 1 for what the laptop holds.
+fn read_rest(dock: Dock) -> Start {
+    let mut bytes = [0u8; 2];
+    if !fill(&mut bytes) {
+        return bad();
+    }
+    Start {
+        is_good: bytes[1] <= 1,
+        dock,
+        page: bytes[0],
+        holds_old: bytes[1] == 1,
+    }
+}
+
+// The modes go into the words, their numbers into the counts. The dock refuses data that breaks its limits.
+pub fn read_start(counts: &mut [u8; 72], words: &mut [u32; RUN_WORDS]) -> Start {
+    let mut identity = [0u32; 6];
+    let Number::Good(objects) = read_words(&mut identity) else {
+        return bad();
+    };
+    let mut svids = [0u16; 72];
+    let Number::Good(count) = read_halves(&mut svids) else {
+        return bad();
+    };
+    if !read_modes(length_of(count), counts, words) {
+        return bad();
+    }
+    let step = dock::load(
+        dock::fresh(),
+        first_objects(&identity, length_of(objects)),
+        first_svids(&svids, length_of(count)),
+    );
+    if step.refusal != 0 {
+        return bad();
+    }
+    let dock = step.dock;
+    read_rest(dock)
+}

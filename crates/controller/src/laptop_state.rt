@@ -77,7 +77,7 @@ fn held_numbers(held: Held) -> [u16; 3] {
     }
 }
 
-pub(crate) fn laptop_numbers(laptop: Laptop) -> [u16; 12] {
+fn laptop_numbers(laptop: Laptop) -> [u16; 12] {
     let awaited = laptop.wait;
     let candidate = laptop.candidate;
     let catalogue = laptop.held;
@@ -97,4 +97,9 @@ pub(crate) fn laptop_numbers(laptop: Laptop) -> [u16; 12] {
         held[1],
         held[2],
     ]
+}
+
+pub(crate) fn put_laptop(laptop: Laptop, state: &mut [u16; 12]) {
+    let numbers = laptop_numbers(laptop);
+    *state = numbers;
 }

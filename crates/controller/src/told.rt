@@ -1,7 +1,7 @@
 // What a laptop's call hands over besides the refusal number, as seven numbers: how many bytes of the output buffer are to be sent; what policy
 // is told (0 nothing, 1 an Attention, 2 NAK, 3 BUSY, 4 a timer, 5 a protocol error); the SVID, command and position of the request, or of the
 // Attention, with how many objects follow its header and that object.
-use crate::laptop_state::laptop_numbers;
+use crate::laptop_state::put_laptop;
 use laptop::Notice;
 use laptop::Step;
 use laptop::Told;
@@ -43,13 +43,17 @@ pub(crate) fn handed_over(length: u8, told: Told) -> [u32; 7] {
     }
 }
 
+// Writes what is handed over into what was lent.
+pub(crate) fn tell(length: u8, told: Told, handed: &mut [u32; 7]) {
+    let over = handed_over(length, told);
+    *handed = over;
+}
+
 // Writes the new state and what is handed over into what was lent, and gives the refusal number.
 pub(crate) fn hand_over(step: Step, state: &mut [u16; 12], handed: &mut [u32; 7]) -> u8 {
     let laptop = step.laptop;
     let told = step.told;
-    let after = laptop_numbers(laptop);
-    let over = handed_over(step.length, told);
-    *state = after;
-    *handed = over;
+    put_laptop(laptop, state);
+    tell(step.length, told, handed);
     step.refusal
 }

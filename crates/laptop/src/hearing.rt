@@ -113,19 +113,18 @@ pub fn message(
     let Answer::Message(head, count) = answer else {
         return refused(messages::number(answer), laptop);
     };
-    let objects = reading.objects;
     if head.kind == REQ {
-        return hear_request(laptop, head, count, objects[0]);
+        return hear_request(laptop, head, count, reading.objects[0]);
     }
     let wait = laptop.wait;
     if !fits(wait, head) {
         return hear_unawaited(laptop, head);
     }
     if head.command == IDENTITY {
-        return hear_identity(laptop, head.kind, count, &objects, svids, identity);
+        return hear_identity(laptop, head.kind, count, &reading.objects, svids, identity);
     }
     if head.command == SVIDS {
-        let step = hear_svids(laptop, head.kind, count, &objects, svids);
+        let step = hear_svids(laptop, head.kind, count, &reading.objects, svids);
         return settle(
             step,
             svids,
@@ -139,7 +138,7 @@ pub fn message(
         );
     }
     if head.command == MODES {
-        let words = first_objects(&objects, count as usize);
+        let words = first_objects(&reading.objects, count as usize);
         let step = hear_modes(laptop, head.kind, words, modes, run);
         return settle(
             step,

@@ -121,10 +121,20 @@ module _ (s : Step) (svids modes identity run heldSvids heldModes heldIdentity h
   unfolding settledStep settledList settledRun
   settle-not e = rw e (refl, refl, refl, refl, refl)
 
-  pub settle-whole : isWhole (s .laptop) ≡ true → (l : Laptop) (first after : List ℕ) → l ≡ published (s .laptop) →
-      first ≡ take (s .laptop .gathered .count) modes → after ≡ copied first run 0 heldRun →
-      (withLaptop l s ≡ settledStep s) × (svids ≡ settledList (s .laptop) svids heldSvids) × (modes ≡ settledList (s .laptop) modes heldModes) ×
-      (identity ≡ settledList (s .laptop) identity heldIdentity) × (after ≡ settledRun (s .laptop) modes run heldRun)
+  -- the held catalogue is the candidate
+  abbrev pub Published : Step → List ℕ → List ℕ → List ℕ → List ℕ → Type 0
+  Published r ofSvids ofModes ofIdentity ofRun =
+      (r ≡ withLaptop (published (s .laptop)) s) × (ofSvids ≡ svids) × (ofModes ≡ modes) × (ofIdentity ≡ identity) ×
+      (ofRun ≡ copied (take (s .laptop .gathered .count) modes) run 0 heldRun)
+
+  pub publish-is : (l : Laptop) (first after : List ℕ) → l ≡ published (s .laptop) → first ≡ take (s .laptop .gathered .count) modes →
+      after ≡ copied first run 0 heldRun → Published (withLaptop l s) svids modes identity after
+  publish-is l first after el ef ea =
+      (ap (λ (x : Laptop). withLaptop x s) el, refl, refl, refl, ea ∙ ap (λ (x : List ℕ). copied x run 0 heldRun) ef)
+
+  pub settle-whole : isWhole (s .laptop) ≡ true → (r : Step) (ofSvids ofModes ofIdentity ofRun : List ℕ) →
+      Published r ofSvids ofModes ofIdentity ofRun →
+      (r ≡ settledStep s) × (ofSvids ≡ settledList (s .laptop) svids heldSvids) × (ofModes ≡ settledList (s .laptop) modes heldModes) ×
+      (ofIdentity ≡ settledList (s .laptop) identity heldIdentity) × (ofRun ≡ settledRun (s .laptop) modes run heldRun)
   unfolding settledStep settledList settledRun
-  settle-whole e l first after el ef ea =
-      rw e (ap (λ (x : Laptop). withLaptop x s) el, refl, refl, refl, ea ∙ ap (λ (x : List ℕ). copied x run 0 heldRun) ef)
+  settle-whole e r ofSvids ofModes ofIdentity ofRun done = rw e done

@@ -14,7 +14,8 @@ use crate::answers::hear_mode;
 use crate::answers::hear_modes;
 use crate::gathering::hear_identity;
 use crate::gathering::hear_svids;
-use crate::publishing::settle;
+use crate::publishing::is_whole;
+use crate::publishing::publish;
 use crate::settling::dropped;
 use crate::settling::refused;
 use crate::settling::short_runs;
@@ -125,7 +126,11 @@ pub fn message(
     }
     if head.command == SVIDS {
         let step = hear_svids(laptop, head.kind, count, &reading.objects, svids);
-        return settle(
+        let after = step.laptop;
+        if !is_whole(after) {
+            return step;
+        }
+        return publish(
             step,
             svids,
             modes,
@@ -140,7 +145,11 @@ pub fn message(
     if head.command == MODES {
         let words = first_objects(&reading.objects, count as usize);
         let step = hear_modes(laptop, head.kind, words, modes, run);
-        return settle(
+        let after = step.laptop;
+        if !is_whole(after) {
+            return step;
+        }
+        return publish(
             step,
             svids,
             modes,

@@ -1,0 +1,2 @@
+-- Laws on the states as numbers.
+pub mod LaptopNumbers

@@ -1,0 +1,2 @@
+-- The states of both ends as numbers.
+pub mod Laptop

@@ -57,7 +57,7 @@ pub record Fits (l : Laptop) : Type 0 where
   pub pages-fit : l .pages < 256
   pub held-fits : HeldFits (l .held)
 
-byte-again : (n : ℕ) → n < 256 → lowByte n ≡ n
+pub byte-again : (n : ℕ) → n < 256 → lowByte n ≡ n
 byte-again n h = omega arith
 
 size-again : (size : Size) → SizeFits size → sizeFrom (size .objects) (size .count) ≡ size

@@ -1,5 +1,7 @@
 // The dock's state: its identity objects and its SVIDs in arrays, and seven numbers: how many objects, how many SVIDs and the present page; where
 // it stands (0 ready, 1 asking, 2 sending an answer, 3 sending a page), with the SVID, command and position of the request it asks for.
+ghost use mathlib.Core.Path.{_≡_};
+ghost use Rattle.controller.specs.Dock.{standingFrom, dockFrom, standingNumbers, dockNumbers, HandedOver};
 use crate::numbers::low_byte;
 use crate::numbers::request_from;
 use dock::Dock;
@@ -7,16 +9,24 @@ use dock::Standing;
 use dock::Step;
 use messages::Request;
 
-fn standing_from(tag: u16, request: Request) -> Standing {
-    match tag {
-        1 => Standing::Asking(request),
-        2 => Standing::Sending(false),
-        3 => Standing::Sending(true),
-        _ => Standing::Ready,
+fn standing_from(tag: u16, request: Request) -> Standing
+    ensures { λ r. ⌜ r ≡ standingFrom tag request ⌝ }
+{
+    if tag == 1 {
+        return Standing::Asking(request);
     }
+    if tag == 2 {
+        return Standing::Sending(false);
+    }
+    if tag == 3 {
+        return Standing::Sending(true);
+    }
+    Standing::Ready
 }
 
-pub(crate) fn dock_from(state: [u16; 7], identity: &[u32; 6], svids: &[u16; 72]) -> Dock {
+pub(crate) fn dock_from(state: [u16; 7], identity: &[u32; 6], svids: &[u16; 72]) -> Dock
+    ensures { λ r. ⌜ r ≡ dockFrom state (now (identity .entry)) (now (svids .entry)) ⌝ }
+{
     let objects = *identity;
     let list = *svids;
     Dock {
@@ -29,7 +39,9 @@ pub(crate) fn dock_from(state: [u16; 7], identity: &[u32; 6], svids: &[u16; 72])
     }
 }
 
-fn standing_numbers(standing: Standing) -> [u16; 4] {
+fn standing_numbers(standing: Standing) -> [u16; 4]
+    ensures { λ r. ⌜ r ≡ standingNumbers standing ⌝ }
+{
     match standing {
         Standing::Ready => [0, 0, 0, 0],
         Standing::Asking(request) => [
@@ -47,7 +59,9 @@ fn standing_numbers(standing: Standing) -> [u16; 4] {
     }
 }
 
-pub(crate) fn dock_numbers(dock: Dock) -> [u16; 7] {
+pub(crate) fn dock_numbers(dock: Dock) -> [u16; 7]
+    ensures { λ r. ⌜ r ≡ dockNumbers dock ⌝ }
+{
     let stands = dock.standing;
     let standing = standing_numbers(stands);
     [
@@ -62,7 +76,9 @@ pub(crate) fn dock_numbers(dock: Dock) -> [u16; 7] {
 }
 
 // Writes the new state and the number of bytes to send into what was lent, and gives the refusal number.
-pub(crate) fn hand_over(step: Step, state: &mut [u16; 7], length: &mut u8) -> u8 {
+pub(crate) fn hand_over(step: Step, state: &mut [u16; 7], length: &mut u8) -> u8
+    ensures { λ r. ⌜ HandedOver step r (now (length .exit)) (now (state .exit)) ⌝ }
+{
     let dock = step.dock;
     let after = dock_numbers(dock);
     *state = after;

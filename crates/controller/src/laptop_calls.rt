@@ -1,13 +1,12 @@
 // The laptop's calls but those of its owner and its timers.
 use crate::laptop_state::laptop_from;
-use crate::laptop_state::laptop_numbers;
-use crate::told::hand_over;
+use crate::laptop_state::put_laptop;
+use crate::told::tell;
 
 // A fresh laptop.
 #[no_mangle]
 pub extern "C" fn laptop_fresh(state: &mut [u16; 12], entered: &mut [u8; 72]) {
-    let after = laptop_numbers(laptop::fresh(entered));
-    *state = after;
+    put_laptop(laptop::fresh(entered), state);
 }
 
 // A message from the dock.
@@ -40,7 +39,11 @@ pub extern "C" fn laptop_message(
         held_run,
         entered,
     );
-    hand_over(step, state, handed)
+    let after = step.laptop;
+    let told = step.told;
+    put_laptop(after, state);
+    tell(step.length, told, handed);
+    step.refusal
 }
 
 // How many modes of the SVID are entered.

@@ -1,6 +1,8 @@
 // The laptop's state as twelve numbers: what is awaited (0 nothing, 1 an answer) with its SVID, command and position; the candidate (0 none, 1 its
 // list is open, 2 its list is done); its identity objects, its SVIDs, and how many of them have their modes; the pages counted; what is held
 // (0 nothing, 1 a catalogue) with its identity objects and its SVIDs.
+ghost use mathlib.Core.Path.{_≡_};
+ghost use Rattle.controller.specs.Laptop.{sizeFrom, waitFrom, candidateFrom, heldFrom, laptopFrom, candidateNumber, waitNumbers, heldNumbers, laptopNumbers};
 use crate::numbers::low_byte;
 use crate::numbers::request_from;
 use laptop::Candidate;
@@ -10,36 +12,48 @@ use laptop::Size;
 use laptop::Wait;
 use messages::Request;
 
-fn size_from(objects: u16, count: u16) -> Size {
+fn size_from(objects: u16, count: u16) -> Size
+    ensures { λ r. ⌜ r ≡ sizeFrom objects count ⌝ }
+{
     Size {
         objects: low_byte(objects),
         count: low_byte(count),
     }
 }
 
-fn wait_from(tag: u16, request: Request) -> Wait {
+fn wait_from(tag: u16, request: Request) -> Wait
+    ensures { λ r. ⌜ r ≡ waitFrom tag request ⌝ }
+{
     if tag == 1 {
         return Wait::Answer(request);
     }
     Wait::Nothing
 }
 
-fn candidate_from(tag: u16) -> Candidate {
-    match tag {
-        1 => Candidate::Open,
-        2 => Candidate::Done,
-        _ => Candidate::Absent,
+fn candidate_from(tag: u16) -> Candidate
+    ensures { λ r. ⌜ r ≡ candidateFrom tag ⌝ }
+{
+    if tag == 1 {
+        return Candidate::Open;
     }
+    if tag == 2 {
+        return Candidate::Done;
+    }
+    Candidate::Absent
 }
 
-fn held_from(tag: u16, size: Size) -> Held {
+fn held_from(tag: u16, size: Size) -> Held
+    ensures { λ r. ⌜ r ≡ heldFrom tag size ⌝ }
+{
     if tag == 1 {
         return Held::Catalogue(size);
     }
     Held::Nothing
 }
 
-pub(crate) fn laptop_from(state: [u16; 12]) -> Laptop {
+pub(crate) fn laptop_from(state: [u16; 12]) -> Laptop
+    ensures { λ r. ⌜ r ≡ laptopFrom state ⌝ }
+{
     Laptop {
         wait: wait_from(state[0], request_from(state[1], state[2], state[3])),
         candidate: candidate_from(state[4]),
@@ -50,7 +64,9 @@ pub(crate) fn laptop_from(state: [u16; 12]) -> Laptop {
     }
 }
 
-fn candidate_number(candidate: Candidate) -> u16 {
+fn candidate_number(candidate: Candidate) -> u16
+    ensures { λ r. ⌜ r ≡ candidateNumber candidate ⌝ }
+{
     match candidate {
         Candidate::Absent => 0,
         Candidate::Open => 1,
@@ -58,7 +74,9 @@ fn candidate_number(candidate: Candidate) -> u16 {
     }
 }
 
-fn wait_numbers(wait: Wait) -> [u16; 4] {
+fn wait_numbers(wait: Wait) -> [u16; 4]
+    ensures { λ r. ⌜ r ≡ waitNumbers wait ⌝ }
+{
     match wait {
         Wait::Nothing => [0, 0, 0, 0],
         Wait::Answer(request) => [
@@ -70,14 +88,18 @@ fn wait_numbers(wait: Wait) -> [u16; 4] {
     }
 }
 
-fn held_numbers(held: Held) -> [u16; 3] {
+fn held_numbers(held: Held) -> [u16; 3]
+    ensures { λ r. ⌜ r ≡ heldNumbers held ⌝ }
+{
     match held {
         Held::Nothing => [0, 0, 0],
         Held::Catalogue(size) => [1, size.objects as u16, size.count as u16],
     }
 }
 
-pub(crate) fn laptop_numbers(laptop: Laptop) -> [u16; 12] {
+fn laptop_numbers(laptop: Laptop) -> [u16; 12]
+    ensures { λ r. ⌜ r ≡ laptopNumbers laptop ⌝ }
+{
     let awaited = laptop.wait;
     let candidate = laptop.candidate;
     let catalogue = laptop.held;
@@ -97,4 +119,11 @@ pub(crate) fn laptop_numbers(laptop: Laptop) -> [u16; 12] {
         held[1],
         held[2],
     ]
+}
+
+pub(crate) fn put_laptop(laptop: Laptop, state: &mut [u16; 12])
+    ensures { λ _. ⌜ now (state .exit) ≡ laptopNumbers laptop ⌝ }
+{
+    let numbers = laptop_numbers(laptop);
+    *state = numbers;
 }

@@ -1,14 +1,18 @@
 // What a laptop's call hands over besides the refusal number, as seven numbers: how many bytes of the output buffer are to be sent; what policy
 // is told (0 nothing, 1 an Attention, 2 NAK, 3 BUSY, 4 a timer, 5 a protocol error); the SVID, command and position of the request, or of the
 // Attention, with how many objects follow its header and that object.
-use crate::laptop_state::laptop_numbers;
+ghost use mathlib.Core.Path.{_≡_};
+ghost use Rattle.controller.specs.Told.{requestNumbers, noticeNumbers, toldNumbers, HandedOver};
+use crate::laptop_state::put_laptop;
 use laptop::Notice;
 use laptop::Step;
 use laptop::Told;
 use messages::ATTENTION;
 use messages::Request;
 
-fn request_numbers(length: u8, tag: u32, request: Request) -> [u32; 7] {
+fn request_numbers(length: u8, tag: u32, request: Request) -> [u32; 7]
+    ensures { λ r. ⌜ r ≡ requestNumbers length tag request ⌝ }
+{
     [
         length as u32,
         tag,
@@ -20,7 +24,9 @@ fn request_numbers(length: u8, tag: u32, request: Request) -> [u32; 7] {
     ]
 }
 
-fn notice_numbers(length: u8, notice: Notice) -> [u32; 7] {
+fn notice_numbers(length: u8, notice: Notice) -> [u32; 7]
+    ensures { λ r. ⌜ r ≡ noticeNumbers length notice ⌝ }
+{
     [
         length as u32,
         1,
@@ -32,7 +38,9 @@ fn notice_numbers(length: u8, notice: Notice) -> [u32; 7] {
     ]
 }
 
-pub(crate) fn handed_over(length: u8, told: Told) -> [u32; 7] {
+pub(crate) fn handed_over(length: u8, told: Told) -> [u32; 7]
+    ensures { λ r. ⌜ r ≡ toldNumbers length told ⌝ }
+{
     match told {
         Told::Nothing => [length as u32, 0, 0, 0, 0, 0, 0],
         Told::Attention(notice) => notice_numbers(length, notice),
@@ -43,13 +51,21 @@ pub(crate) fn handed_over(length: u8, told: Told) -> [u32; 7] {
     }
 }
 
+// Writes what is handed over into what was lent.
+pub(crate) fn tell(length: u8, told: Told, handed: &mut [u32; 7])
+    ensures { λ _. ⌜ now (handed .exit) ≡ toldNumbers length told ⌝ }
+{
+    let over = handed_over(length, told);
+    *handed = over;
+}
+
 // Writes the new state and what is handed over into what was lent, and gives the refusal number.
-pub(crate) fn hand_over(step: Step, state: &mut [u16; 12], handed: &mut [u32; 7]) -> u8 {
+pub(crate) fn hand_over(step: Step, state: &mut [u16; 12], handed: &mut [u32; 7]) -> u8
+    ensures { λ r. ⌜ HandedOver step r (now (state .exit)) (now (handed .exit)) ⌝ }
+{
     let laptop = step.laptop;
     let told = step.told;
-    let after = laptop_numbers(laptop);
-    let over = handed_over(step.length, told);
-    *state = after;
-    *handed = over;
+    put_laptop(laptop, state);
+    tell(step.length, told, handed);
     step.refusal
 }

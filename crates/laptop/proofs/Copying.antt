@@ -122,7 +122,7 @@ module _ (s : Step) (svids modes identity run heldSvids heldModes heldIdentity h
   settle-not e = rw e (refl, refl, refl, refl, refl)
 
   -- the held catalogue is the candidate
-  abbrev Published : Step → List ℕ → List ℕ → List ℕ → List ℕ → Type 0
+  abbrev pub Published : Step → List ℕ → List ℕ → List ℕ → List ℕ → Type 0
   Published r ofSvids ofModes ofIdentity ofRun =
       (r ≡ withLaptop (published (s .laptop)) s) × (ofSvids ≡ svids) × (ofModes ≡ modes) × (ofIdentity ≡ identity) ×
       (ofRun ≡ copied (take (s .laptop .gathered .count) modes) run 0 heldRun)

@@ -17,9 +17,10 @@ use Rattle.messages.specs.declared.Head.{Head}
 use Rattle.messages.specs.declared.Reading.{Reading}
 use Rattle.messages.proofs.Laws.{answer-message, read-count}
 use Rattle.pages.specs.Pages.{halves}
-use Rattle.laptop.specs.Answers.{Opening, Gathering, Filling, Marking, hearIdentity, sixHalves, hearSvids, hearModes, hearMode}
+use Rattle.laptop.specs.Answers.{Opening, Gathering, Filling, Marking, isWhole, hearIdentity, sixHalves, hearSvids, hearModes, hearMode}
 use Rattle.laptop.specs.Calls.{refusedBy, shortRuns}
 use Rattle.laptop.specs.Hearing.{Result, only, hearRequest, fits, hearUnawaited, withOpening, withGathering, withFilling, withMarking, settledStep, settledList, settledRun, settled, hearAnswer, hear, heard}
+use Rattle.laptop.proofs.Copying.{Published, settle-not, settle-whole}
 use Rattle.laptop.specs.State.{Memory, memory}
 use Rattle.laptop.specs.declared.Laptop.{Laptop}
 use Rattle.laptop.specs.declared.Step.{Step}
@@ -165,7 +166,7 @@ module _ (m : Memory) where
     settled-memory : memory svids modes (m .identity) run heldSvids heldModes heldIdentity heldRun (m .entered) ≡ settledAt s svids modes run
     settled-memory = rw (ea, eb, ec, ed)
 
-    pub settled-gathering : (g : Gathering) → s ≡ g .step → svids ≡ g .svids → modes ≡ m .modes → run ≡ m .run →
+    settled-gathering : (g : Gathering) → s ≡ g .step → svids ≡ g .svids → modes ≡ m .modes → run ≡ m .run →
         (last ≡ settled (withGathering m g) .step) ×
         (memory svids modes (m .identity) run heldSvids heldModes heldIdentity heldRun (m .entered) ≡ settled (withGathering m g) .after)
     settled-gathering g es ev em er = (
@@ -173,10 +174,43 @@ module _ (m : Memory) where
       settled-memory ∙ ap₂ (λ (x : Step) (v : List ℕ). settledAt x v modes run) es ev ∙ ap₂ (λ (o w : List ℕ). settledAt (g .step) (g .svids) o w) em er,
     )
 
-    pub settled-filling : (f : Filling) → s ≡ f .step → modes ≡ f .modes → run ≡ f .run → svids ≡ m .svids →
+    settled-filling : (f : Filling) → s ≡ f .step → modes ≡ f .modes → run ≡ f .run → svids ≡ m .svids →
         (last ≡ settled (withFilling m f) .step) ×
         (memory svids modes (m .identity) run heldSvids heldModes heldIdentity heldRun (m .entered) ≡ settled (withFilling m f) .after)
     settled-filling f es em er ev = (
       el ∙ ap settledStep es,
       settled-memory ∙ ap₂ (λ (x : Step) (v : List ℕ). settledAt x v modes run) es ev ∙ ap₂ (λ (o w : List ℕ). settledAt (f .step) (m .svids) o w) em er,
     )
+
+  -- the same where the candidate is not whole, and nothing is published
+  module _ (s : Step) (kept : isWhole (s .laptop) ≡ false) where
+    pub kept-gathering : (g : Gathering) (svids : List ℕ) → s ≡ g .step → svids ≡ g .svids →
+        (s ≡ settled (withGathering m g) .step) ×
+        (memory svids (m .modes) (m .identity) (m .run) (m .heldSvids) (m .heldModes) (m .heldIdentity) (m .heldRun) (m .entered) ≡ settled (withGathering m g) .after)
+    kept-gathering g svids es ev =
+        let (el, ea, eb, ec, ed) = settle-not s svids (m .modes) (m .identity) (m .run) (m .heldSvids) (m .heldModes) (m .heldIdentity) (m .heldRun) kept in
+        settled-gathering s s svids (m .modes) (m .run) (m .heldSvids) (m .heldModes) (m .heldIdentity) (m .heldRun) el ea eb ec ed g es ev refl refl
+
+    pub kept-filling : (f : Filling) (modes run : List ℕ) → s ≡ f .step → modes ≡ f .modes → run ≡ f .run →
+        (s ≡ settled (withFilling m f) .step) ×
+        (memory (m .svids) modes (m .identity) run (m .heldSvids) (m .heldModes) (m .heldIdentity) (m .heldRun) (m .entered) ≡ settled (withFilling m f) .after)
+    kept-filling f modes run es em er =
+        let (el, ea, eb, ec, ed) = settle-not s (m .svids) modes (m .identity) run (m .heldSvids) (m .heldModes) (m .heldIdentity) (m .heldRun) kept in
+        settled-filling s s (m .svids) modes run (m .heldSvids) (m .heldModes) (m .heldIdentity) (m .heldRun) el ea eb ec ed f es em er refl
+
+  -- and where it is whole, and is published
+  module _ (s last : Step) (svids modes run heldSvids heldModes heldIdentity heldRun : List ℕ) (whole : isWhole (s .laptop) ≡ true)
+      (done : Published s svids modes (m .identity) run (m .heldSvids) (m .heldModes) (m .heldIdentity) (m .heldRun) last heldSvids heldModes heldIdentity heldRun) where
+    pub published-gathering : (g : Gathering) → s ≡ g .step → svids ≡ g .svids → modes ≡ m .modes → run ≡ m .run →
+        (last ≡ settled (withGathering m g) .step) ×
+        (memory svids modes (m .identity) run heldSvids heldModes heldIdentity heldRun (m .entered) ≡ settled (withGathering m g) .after)
+    published-gathering g es ev em er =
+        let (el, ea, eb, ec, ed) = settle-whole s svids modes (m .identity) run (m .heldSvids) (m .heldModes) (m .heldIdentity) (m .heldRun) whole last heldSvids heldModes heldIdentity heldRun done in
+        settled-gathering s last svids modes run heldSvids heldModes heldIdentity heldRun el ea eb ec ed g es ev em er
+
+    pub published-filling : (f : Filling) → s ≡ f .step → modes ≡ f .modes → run ≡ f .run → svids ≡ m .svids →
+        (last ≡ settled (withFilling m f) .step) ×
+        (memory svids modes (m .identity) run heldSvids heldModes heldIdentity heldRun (m .entered) ≡ settled (withFilling m f) .after)
+    published-filling f es em er ev =
+        let (el, ea, eb, ec, ed) = settle-whole s svids modes (m .identity) run (m .heldSvids) (m .heldModes) (m .heldIdentity) (m .heldRun) whole last heldSvids heldModes heldIdentity heldRun done in
+        settled-filling s last svids modes run heldSvids heldModes heldIdentity heldRun el ea eb ec ed f es em er ev

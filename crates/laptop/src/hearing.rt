@@ -14,7 +14,8 @@ use crate::answers::hear_mode;
 use crate::answers::hear_modes;
 use crate::gathering::hear_identity;
 use crate::gathering::hear_svids;
-use crate::publishing::settle;
+use crate::publishing::is_whole;
+use crate::publishing::publish;
 use crate::settling::dropped;
 use crate::settling::refused;
 use crate::settling::short_runs;
@@ -113,20 +114,23 @@ pub fn message(
     let Answer::Message(head, count) = answer else {
         return refused(messages::number(answer), laptop);
     };
-    let objects = reading.objects;
     if head.kind == REQ {
-        return hear_request(laptop, head, count, objects[0]);
+        return hear_request(laptop, head, count, reading.objects[0]);
     }
     let wait = laptop.wait;
     if !fits(wait, head) {
         return hear_unawaited(laptop, head);
     }
     if head.command == IDENTITY {
-        return hear_identity(laptop, head.kind, count, &objects, svids, identity);
+        return hear_identity(laptop, head.kind, count, &reading.objects, svids, identity);
     }
     if head.command == SVIDS {
-        let step = hear_svids(laptop, head.kind, count, &objects, svids);
-        return settle(
+        let step = hear_svids(laptop, head.kind, count, &reading.objects, svids);
+        let after = step.laptop;
+        if !is_whole(after) {
+            return step;
+        }
+        return publish(
             step,
             svids,
             modes,
@@ -139,9 +143,13 @@ pub fn message(
         );
     }
     if head.command == MODES {
-        let words = first_objects(&objects, count as usize);
+        let words = first_objects(&reading.objects, count as usize);
         let step = hear_modes(laptop, head.kind, words, modes, run);
-        return settle(
+        let after = step.laptop;
+        if !is_whole(after) {
+            return step;
+        }
+        return publish(
             step,
             svids,
             modes,

@@ -3,7 +3,7 @@ ghost use mathlib.Core.Path.{_≡_};
 ghost use Prim.Native.Nat.{_*_, _<_, _≤_};
 ghost use lib.ListN.{length, take};
 ghost use Rattle.laptop.specs.Answers.{isWhole, isMode, copied, copiedTo};
-ghost use Rattle.laptop.specs.Hearing.{withLaptop, settledStep, settledList, settledRun};
+ghost use Rattle.laptop.specs.Hearing.{withLaptop};
 ghost use Rattle.laptop.specs.State.{published as State·published};
 use crate::Candidate;
 use crate::Held;
@@ -26,7 +26,7 @@ fn published(laptop: Laptop) -> Laptop
 }
 
 // The list is done, and no modes are missing.
-fn is_whole(laptop: Laptop) -> bool
+pub(crate) fn is_whole(laptop: Laptop) -> bool
     ensures { λ r. ⌜ r ≡ isWhole laptop ⌝ }
 {
     let candidate = laptop.candidate;
@@ -74,8 +74,8 @@ fn first_counts(modes: &[u8], n: usize) -> &[u8]
     modes
 }
 
-// The candidate replaces the held catalogue. It stands apart from `settle`, which is small and part of its callers.
-fn publish(
+// The candidate replaces the held catalogue.
+pub(crate) fn publish(
     step: Step,
     svids: &[u16; 72],
     modes: &[u8; 72],
@@ -102,36 +102,4 @@ fn publish(
         laptop: published(laptop),
         ..step
     }
-}
-
-// A candidate without a missing mode is published.
-pub(crate) fn settle(
-    step: Step,
-    svids: &[u16; 72],
-    modes: &[u8; 72],
-    identity: &[u32; 6],
-    run: &[u32],
-    held_svids: &mut [u16; 72],
-    held_modes: &mut [u8; 72],
-    held_identity: &mut [u32; 6],
-    held_run: &mut [u32],
-) -> Step
-    requires { ⌜ (432 ≤ length (now run)) × (432 ≤ length (now «held_run»)) ⌝ }
-    ensures { λ r. ⌜ (r ≡ settledStep step) × (now («held_svids» .exit) ≡ settledList (step .laptop) (now (svids .entry)) (now («held_svids» .entry))) × (now («held_modes» .exit) ≡ settledList (step .laptop) (now (modes .entry)) (now («held_modes» .entry))) × (now («held_identity» .exit) ≡ settledList (step .laptop) (now (identity .entry)) (now («held_identity» .entry))) × (now («held_run» .exit) ≡ settledRun (step .laptop) (now (modes .entry)) (now (run .entry)) (now («held_run» .entry))) ⌝ }
-{
-    let laptop = step.laptop;
-    if is_whole(laptop) {
-        return publish(
-            step,
-            svids,
-            modes,
-            identity,
-            run,
-            held_svids,
-            held_modes,
-            held_identity,
-            held_run,
-        );
-    }
-    step
 }

@@ -1,0 +1,3 @@
+-- Laws on the states as numbers.
+pub mod DockNumbers
+pub mod LaptopNumbers

@@ -1,0 +1,68 @@
+-- The laptop's state as twelve numbers, and back.
+use Prim.Native.Nat.{ℕ, _%_}
+use mathlib.Core.Bool.{cond}
+use mathlib.Core.List.{List, [], _∷_}
+use lib.Dec.{eqb}
+use lib.ListN.{getD}
+use Rattle.messages.specs.declared.request.Request.{Request}
+use Rattle.laptop.specs.declared.Candidate.{Candidate}
+use Rattle.laptop.specs.declared.Candidate.the-variants.{Absent, Open, Done}
+use Rattle.laptop.specs.declared.Held.{Held}
+use Rattle.laptop.specs.declared.Held.the-variants.{Catalogue}
+use Rattle.laptop.specs.declared.Held.the-variants.{Nothing as Held·Nothing}
+use Rattle.laptop.specs.declared.Laptop.{Laptop}
+use Rattle.laptop.specs.declared.Size.{Size}
+use Rattle.laptop.specs.declared.Wait.{Wait}
+use Rattle.laptop.specs.declared.Wait.the-variants.{Nothing, Answer}
+
+-- the low eight bits
+abbrev pub lowByte : ℕ → ℕ
+lowByte number = number % 256
+
+abbrev pub requestFrom : ℕ → ℕ → ℕ → Request
+requestFrom svid command position = record { svid = svid; command = lowByte command; position = lowByte position }
+
+abbrev pub sizeFrom : ℕ → ℕ → Size
+sizeFrom objects count = record { objects = lowByte objects; count = lowByte count }
+
+abbrev pub waitFrom : ℕ → Request → Wait
+waitFrom tag request = cond (eqb tag 1) (Answer request) Nothing
+
+abbrev pub candidateFrom : ℕ → Candidate
+candidateFrom tag = cond (eqb tag 1) Open (cond (eqb tag 2) Done Absent)
+
+abbrev pub heldFrom : ℕ → Size → Held
+heldFrom tag size = cond (eqb tag 1) (Catalogue size) Held·Nothing
+
+unfoldable pub laptopFrom : List ℕ → Laptop
+laptopFrom s =
+    record {
+      wait = waitFrom (getD s 0 0) (requestFrom (getD s 1 0) (getD s 2 0) (getD s 3 0));
+      candidate = candidateFrom (getD s 4 0);
+      gathered = sizeFrom (getD s 5 0) (getD s 6 0);
+      filled = lowByte (getD s 7 0);
+      pages = lowByte (getD s 8 0);
+      held = heldFrom (getD s 9 0) (sizeFrom (getD s 10 0) (getD s 11 0));
+    }
+
+abbrev pub waitNumbers : Wait → List ℕ
+waitNumbers Nothing = 0 ∷ 0 ∷ 0 ∷ 0 ∷ []
+waitNumbers (Answer r) = 1 ∷ r .svid ∷ r .command ∷ r .position ∷ []
+
+abbrev pub candidateNumber : Candidate → ℕ
+candidateNumber Absent = 0
+candidateNumber Open = 1
+candidateNumber Done = 2
+
+abbrev pub heldNumbers : Held → List ℕ
+heldNumbers Held·Nothing = 0 ∷ 0 ∷ 0 ∷ []
+heldNumbers (Catalogue size) = 1 ∷ size .objects ∷ size .count ∷ []
+
+-- what is awaited, and what is held, in so many numbers each
+abbrev pub numbersWith : List ℕ → ℕ → Laptop → List ℕ → List ℕ
+numbersWith wait candidate l held =
+    getD wait 0 0 ∷ getD wait 1 0 ∷ getD wait 2 0 ∷ getD wait 3 0 ∷ candidate ∷ l .gathered .objects ∷ l .gathered .count ∷ l .filled ∷ l .pages ∷
+    getD held 0 0 ∷ getD held 1 0 ∷ getD held 2 0 ∷ []
+
+unfoldable pub laptopNumbers : Laptop → List ℕ
+laptopNumbers l = numbersWith (waitNumbers (l .wait)) (candidateNumber (l .candidate)) l (heldNumbers (l .held))

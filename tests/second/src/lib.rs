@@ -1,6 +1,7 @@
 //! The second implementation, written from document 01 alone: one module a topic.
 
 pub mod call;
+pub mod cases;
 pub mod catalogue;
 pub mod digest;
 pub mod dock;

@@ -13,7 +13,8 @@ pub fn print_answers(input: &mut impl BufRead, output: &mut impl Write) -> io::R
     })
 }
 
-fn print_answer(
+/// The line of one event.
+pub fn print_answer(
     number: usize,
     event: &Event,
     run: &mut Run,

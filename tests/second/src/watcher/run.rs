@@ -1,7 +1,7 @@
 //! A laptop with all that is lent to it, driven by events.
 
 use super::Event;
-use crate::catalogue::RUN_WORDS;
+use crate::catalogue::{MOST_CATALOGUE_BYTES, RUN_WORDS};
 use crate::laptop::{Answer, Laptop, Runs};
 use crate::messages::OBJECT_BYTES;
 use crate::refusals::ACCEPTED;
@@ -36,6 +36,13 @@ impl Default for Run {
 impl Run {
     pub fn laptop(&self) -> &Laptop {
         &self.laptop
+    }
+
+    /// The held catalogue's bytes.
+    pub fn held_bytes(&self) -> Option<Vec<u8>> {
+        let mut bytes = [0; MOST_CATALOGUE_BYTES];
+        let length = self.laptop.write_catalogue(&self.held, &mut bytes).ok()?;
+        Some(bytes[..length].to_vec())
     }
 
     pub fn take(&mut self, event: &Event) -> Outcome {

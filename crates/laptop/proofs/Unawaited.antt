@@ -33,9 +33,6 @@ module _ (l : Laptop) (h : Head) (count object : ℕ) where
 pub fits-answer : (w : Wait) (r : Request) (h : Head) → w ≡ Answer r → sameRequest r (requestOf h) ≡ fits w h
 fits-answer w r h e = sym (ap (λ (x : Wait). fits x h) e)
 
-pub fits-nothing : (w : Wait) (h : Head) → w ≡ Nothing → false ≡ fits w h
-fits-nothing w h e = sym (ap (λ (x : Wait). fits x h) e)
-
 module _ (l : Laptop) (h : Head) where
   pub late-awaited : (r : Request) → l .wait ≡ Answer r → false ≡ isLatePage l h
   unfolding isLatePage

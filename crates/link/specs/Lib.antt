@@ -1,0 +1,4 @@
+-- Document 01, "The link and the fair dock of demand 3", and what demand 3 says of it.
+pub mod Demand
+pub mod Joined
+pub mod Link

@@ -2,6 +2,7 @@
 use events::Call;
 use events::Event;
 use events::Found;
+use events::LONGEST_EVENT;
 use events::body_length;
 use events::read_event;
 use laptop::Laptop;
@@ -14,9 +15,6 @@ pub enum Taken {
     Unknown,
     Cut,
 }
-
-// The most bytes of an event: a kind, and seven objects.
-const LONGEST_EVENT: usize = 29;
 
 fn call_in(bytes: &[u8]) -> Taken {
     let found = read_event(bytes);

@@ -1,4 +1,4 @@
-// What a line says of a laptop. Each field has a space before it, and is `-` where there is nothing to tell.
+// What a line says of its event and of a laptop. Each field but the first has a space before it, and is `-` where there is nothing to tell.
 use laptop::Candidate;
 use laptop::Held;
 use laptop::Laptop;
@@ -9,6 +9,13 @@ use text::line::append_decimal;
 use text::line::append_field;
 use text::line::append_half;
 use text::line::append_word;
+
+// The number of a stream and of an event in it: a line's first two fields.
+pub fn append_place(line: &mut [u8], stream: u64, number: u64) -> usize {
+    let at = append_decimal(line, 0, stream);
+    let at = append(line, at, b" ");
+    append_decimal(line, at, number)
+}
 
 pub fn append_nothing(line: &mut [u8], at: usize) -> usize {
     append(line, at, b" -")

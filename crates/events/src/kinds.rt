@@ -9,6 +9,9 @@ const OBJECT_BYTES: usize = 4;
 
 const MODE_BYTES: usize = 3;
 
+// The most bytes of an event: a kind, and seven objects.
+pub const LONGEST_EVENT: usize = 29;
+
 pub(crate) const NEXT: u8 = 0x40;
 
 pub(crate) const START_OVER: u8 = 0x41;

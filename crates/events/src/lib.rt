@@ -7,6 +7,7 @@ ghost use Prim.Native.Nat.{_+_, _≤_};
 ghost use lib.ListN.{length, drop};
 ghost use Rattle.events.specs.Events.{bodyLength, eventOf, eventIn};
 use calls::call_of;
+pub use kinds::LONGEST_EVENT;
 pub use kinds::body_length;
 use kinds::is_known;
 use kinds::is_message;

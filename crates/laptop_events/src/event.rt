@@ -19,6 +19,8 @@ const CATALOGUE: u8 = 0x4A;
 
 const LENGTHS: u8 = 0x4B;
 
+const NEW_STREAM: u8 = 0x4C;
+
 // A greater number in the stream counts as this one: bytes of a message, bytes of a catalogue's output buffer, words of a run.
 pub const LONGEST_MESSAGE: usize = 40;
 
@@ -45,6 +47,7 @@ pub enum Event {
 // The event that stood next, or why there is none.
 pub enum Taken {
     Whole(Event),
+    NewStream,
     Unknown,
     Cut,
     Nothing,
@@ -122,6 +125,7 @@ pub fn take_event(message: &mut [u8; LONGEST_MESSAGE]) -> Taken {
         REPORT => take_report(),
         CATALOGUE => take_catalogue(),
         LENGTHS => take_lengths(),
+        NEW_STREAM => Taken::NewStream,
         _ => Taken::Unknown,
     }
 }

@@ -1,4 +1,4 @@
-// Drives the laptop end by the events on standard input, which can lend it runs and buffers of any length: each gets one line.
+// Drives the laptop end by the streams of events on standard input, which can lend it runs and buffers of any length: each event gets one line.
 mod answering;
 mod event;
 mod report;
@@ -16,16 +16,19 @@ use text::line::print_last;
 // What the runs hold at the start, so that a reader sees which words were left alone.
 const UNWRITTEN_WORD: u32 = 0xEEEEEEEE;
 
-// A proved loop has to end, and nothing says that the input does. So after this many events the input counts as ended.
+// A proved loop has to end, and nothing says that the input does. So after this many events the input counts as ended, and after this many streams.
 const MOST_EVENTS: u64 = 1000000;
 
-// What stood where the next event was to be, and how many events were answered before.
+const MOST_STREAMS: u64 = 1000000;
+
+// What stood where the next event was to be, and how many events of all streams were answered before.
 struct Finish {
     taken: Taken,
     count: u64,
 }
 
-fn answer_all() -> Finish {
+// Answers a stream, whose laptop is fresh, after so many events of the streams before it.
+fn answer_stream(stream: u64, before: u64) -> Finish {
     let mut svids = [0u16; 72];
     let mut modes = [0u8; 72];
     let mut identity = [0u32; 6];
@@ -37,7 +40,8 @@ fn answer_all() -> Finish {
     let mut entered = [0u8; 72];
     let mut message = [0u8; LONGEST_MESSAGE];
     let mut state = begin(laptop::fresh(&mut entered));
-    let mut count: u64 = 0;
+    let mut count = before;
+    let mut number: u64 = 0;
     while count < MOST_EVENTS {
         let taken = take_event(&mut message);
         let Taken::Whole(event) = taken else {
@@ -59,12 +63,27 @@ fn answer_all() -> Finish {
         );
         state = answer.state;
         count += 1;
-        print_event(count, answer, &run, &held_run);
+        number += 1;
+        print_event(stream, number, answer, &run, &held_run);
     }
     Finish {
         taken: Taken::Nothing,
         count,
     }
+}
+
+fn answer_all() -> Finish {
+    let mut finish = answer_stream(1, 0);
+    let mut stream: u64 = 1;
+    while stream < MOST_STREAMS {
+        let taken = finish.taken;
+        let Taken::NewStream = taken else {
+            return finish;
+        };
+        stream += 1;
+        finish = answer_stream(stream, finish.count);
+    }
+    finish
 }
 
 fn print_finish(finish: Finish) {
@@ -79,7 +98,7 @@ fn print_finish(finish: Finish) {
 fn main() {
     io::write_all(
         STDOUT_FILENO,
-        b"event refusal sent output told awaited candidate pages held candidate_run held_run catalogue report\n",
+        b"stream event refusal sent output told awaited candidate pages held candidate_run held_run catalogue report\n",
     );
     print_finish(answer_all());
 }

@@ -1,4 +1,4 @@
-// The line that an event gets: its number, what the call led to, what the laptop and its runs have come to, and what was read.
+// The line that an event gets: the number of its stream, its own in that stream, what the call led to, what the laptop and its runs have come to, and what was read.
 use crate::answering::Answer;
 use crate::answering::Catalogue;
 use crate::answering::Output;
@@ -11,6 +11,7 @@ use driving::fields::append_digest;
 use driving::fields::append_held;
 use driving::fields::append_nothing;
 use driving::fields::append_part;
+use driving::fields::append_place;
 use driving::fields::append_request;
 use laptop::Laptop;
 use laptop::Notice;
@@ -108,13 +109,19 @@ fn append_report(line: &mut [u8], at: usize, report: Report) -> usize {
     append_decimal(line, at, count as u64)
 }
 
-pub fn print_event(number: u64, answer: Answer, run: &[u32; RUN], held_run: &[u32; RUN]) {
+pub fn print_event(
+    stream: u64,
+    number: u64,
+    answer: Answer,
+    run: &[u32; RUN],
+    held_run: &[u32; RUN],
+) {
     let state = answer.state;
     let laptop = state.laptop;
     let catalogue = answer.catalogue;
     let report = answer.report;
     let mut line = [0u8; LONGEST];
-    let at = append_decimal(&mut line, 0, number);
+    let at = append_place(&mut line, stream, number);
     let at = append_step(&mut line, at, answer);
     let at = append_laptop(&mut line, at, laptop);
     let at = append_digest(&mut line, at, of_words(run));

@@ -30,6 +30,8 @@ const SENT: u8 = 0x56;
 
 const FAILED: u8 = 0x57;
 
+const NEW_STREAM: u8 = 0x58;
+
 // The timer is that of the awaited command.
 pub enum Event {
     Call(Call),
@@ -44,9 +46,11 @@ pub enum Event {
     Failed,
 }
 
-// The event that stood next, or why there is none.
+// The event that stood next, or why there is none. A new stream is followed by what it begins with, which is bad where it is cut or breaks a limit.
 pub enum Taken {
     Whole(Event),
+    NewStream,
+    BadDockData,
     Unknown,
     Cut,
     Nothing,
@@ -78,6 +82,7 @@ pub fn take_event() -> Taken {
         ANSWER_LOST => Taken::Whole(Event::AnswerLost),
         SENT => Taken::Whole(Event::Sent),
         FAILED => Taken::Whole(Event::Failed),
+        NEW_STREAM => Taken::NewStream,
         _ => Taken::Unknown,
     }
 }

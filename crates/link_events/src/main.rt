@@ -1,4 +1,5 @@
-// Joins the laptop end and the dock end by the link of demand 3, drives them by the events on standard input, and prints a line for each.
+// Joins the laptop end and the dock end by the link of demand 3, drives them by the streams of events on standard input, and prints a line for each
+// event.
 mod at_dock;
 mod at_laptop;
 mod begin;
@@ -21,16 +22,21 @@ use state::State;
 use system::take;
 use text::line::print_last;
 
-// A proved loop has to end, and nothing says that the input does. So after this many events the input counts as ended.
+// A proved loop has to end, and nothing says that the input does. So after this many events the input counts as ended, and after this many streams.
 const MOST_EVENTS: u64 = 1000000;
 
-// What stood where the next event was to be, and how many events were answered before.
+const MOST_STREAMS: u64 = 1000000;
+
+// What stood where the next event was to be, and how many events of all streams were answered before.
 struct Finish {
     taken: Taken,
     count: u64,
 }
 
-fn answer_all(
+// Answers the events of a stream, after so many events of the streams before it.
+fn answer_events(
+    stream: u64,
+    before: u64,
     begun: State,
     counts: &[u8; 72],
     words: &[u32; RUN_WORDS],
@@ -45,7 +51,8 @@ fn answer_all(
     entered: &mut [u8; 72],
 ) -> Finish {
     let mut state = begun;
-    let mut count: u64 = 0;
+    let mut count = before;
+    let mut number: u64 = 0;
     while count < MOST_EVENTS {
         let taken = take_event();
         let Taken::Whole(event) = taken else {
@@ -68,8 +75,10 @@ fn answer_all(
         );
         state = outcome.state;
         count += 1;
+        number += 1;
         print_event(
-            count,
+            stream,
+            number,
             outcome,
             held_svids,
             held_modes,
@@ -83,7 +92,13 @@ fn answer_all(
     }
 }
 
-fn answer_from(start: Start, counts: &[u8; 72], words: &[u32; RUN_WORDS]) -> Finish {
+fn answer_from(
+    stream: u64,
+    before: u64,
+    start: Start,
+    counts: &[u8; 72],
+    words: &[u32; RUN_WORDS],
+) -> Finish {
     let mut svids = [0u16; 72];
     let mut modes = [0u8; 72];
     let mut identity = [0u32; 6];
@@ -105,7 +120,9 @@ fn answer_from(start: Start, counts: &[u8; 72], words: &[u32; RUN_WORDS]) -> Fin
         &mut held_run,
         &mut entered,
     );
-    answer_all(
+    answer_events(
+        stream,
+        before,
         state,
         counts,
         words,
@@ -121,11 +138,42 @@ fn answer_from(start: Start, counts: &[u8; 72], words: &[u32; RUN_WORDS]) -> Fin
     )
 }
 
+// Answers a stream from its beginning, after so many events of the streams before it.
+fn answer_stream(stream: u64, before: u64) -> Finish {
+    let mut counts = [0u8; 72];
+    let mut words = [0u32; RUN_WORDS];
+    let start = read_start(&mut counts, &mut words);
+    if start.is_good {
+        return answer_from(stream, before, start, &counts, &words);
+    }
+    Finish {
+        taken: Taken::BadDockData,
+        count: before,
+    }
+}
+
+fn answer_all() -> Finish {
+    let mut finish = answer_stream(1, 0);
+    let mut stream: u64 = 1;
+    while stream < MOST_STREAMS {
+        let taken = finish.taken;
+        let Taken::NewStream = taken else {
+            return finish;
+        };
+        stream += 1;
+        finish = answer_stream(stream, finish.count);
+    }
+    finish
+}
+
 fn print_finish(finish: Finish) {
     let taken = finish.taken;
     match taken {
         Taken::Unknown => print_last(b"unknown kind after ", finish.count, b" events\n"),
         Taken::Cut => print_last(b"cut after ", finish.count, b" events\n"),
+        Taken::BadDockData => {
+            io::write_all(STDOUT_FILENO, b"bad dock data\n");
+        }
         _ => print_last(b"end ", finish.count, b" events\n"),
     }
 }
@@ -133,14 +181,7 @@ fn print_finish(finish: Finish) {
 fn main() {
     io::write_all(
         STDOUT_FILENO,
-        b"event permitted refusal pages candidate held catalogue page lost\n",
+        b"stream event permitted refusal pages candidate held catalogue page lost\n",
     );
-    let mut counts = [0u8; 72];
-    let mut words = [0u32; RUN_WORDS];
-    let start = read_start(&mut counts, &mut words);
-    if start.is_good {
-        print_finish(answer_from(start, &counts, &words));
-        return;
-    }
-    io::write_all(STDOUT_FILENO, b"bad dock data\n");
+    print_finish(answer_all());
 }

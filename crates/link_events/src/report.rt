@@ -1,4 +1,4 @@
-// The line that an event gets: its number, whether it is permitted, what its call led to, and how both ends stand then.
+// The line that an event gets: the number of its stream, its own in that stream, whether it is permitted, what its call led to, and how both ends stand then.
 use crate::state::Outcome;
 use crate::state::Refusal;
 use driving::digest::of_bytes;
@@ -6,6 +6,7 @@ use driving::fields::append_candidate;
 use driving::fields::append_digest;
 use driving::fields::append_held;
 use driving::fields::append_nothing;
+use driving::fields::append_place;
 use laptop::Laptop;
 use laptop::RUN_WORDS;
 use text::line::append;
@@ -72,6 +73,7 @@ fn append_laptop(line: &mut [u8], at: usize, laptop: Laptop) -> usize {
 }
 
 pub fn print_event(
+    stream: u64,
     number: u64,
     outcome: Outcome,
     held_svids: &[u16; 72],
@@ -84,7 +86,7 @@ pub fn print_event(
     let dock = state.dock;
     let refusal = outcome.refusal;
     let mut line = [0u8; LONGEST];
-    let at = append_decimal(&mut line, 0, number);
+    let at = append_place(&mut line, stream, number);
     let at = append_permitted(&mut line, at, outcome.is_permitted);
     let at = append_refusal(&mut line, at, refusal);
     let at = append_laptop(&mut line, at, laptop);

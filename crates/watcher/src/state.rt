@@ -3,6 +3,7 @@ use crate::BLOCK;
 use crate::acting::Answer;
 use driving::fields::append_held;
 use driving::fields::append_nothing;
+use events::LONGEST_EVENT;
 use laptop::Laptop;
 use text::block::Unread;
 use text::block::make_room;
@@ -14,9 +15,6 @@ use text::line::append;
 use text::line::append_decimal;
 use text::line::append_field;
 use text::line::append_word;
-
-// A message of seven objects and its kind.
-const LONGEST_EVENT: usize = 29;
 
 // The longest line: a number of seven digits, a refusal, eight digits of a header, a page count and a number of SVIDs of three digits each, a
 // space before each but the first, and the line end.

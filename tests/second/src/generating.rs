@@ -6,6 +6,29 @@ use std::num::ParseIntError;
 use std::process::ExitCode;
 
 const SEED: u64 = 0x5EED_0000_0000_0001;
+const STREAM: &str = "--stream";
+
+/// What a generator of many streams is asked for.
+pub enum Asked {
+    /// All streams that are stored, one after the other.
+    Stored,
+    /// The stored stream of that number alone.
+    Stream(u64),
+    /// One long stream of the seed.
+    Seed(u64),
+}
+
+/// No argument, `--stream` and a number, or a seed.
+pub fn asked() -> Result<Asked, ParseIntError> {
+    let mut arguments = std::env::args().skip(1);
+    Ok(match arguments.next() {
+        None => Asked::Stored,
+        Some(argument) if argument == STREAM => {
+            Asked::Stream(arguments.next().unwrap_or_default().parse()?)
+        }
+        Some(seed) => Asked::Seed(seed.parse()?),
+    })
+}
 
 /// The seed given, in decimal, as the first argument, or else ours.
 pub fn seed() -> Result<u64, ParseIntError> {

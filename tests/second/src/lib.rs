@@ -3,6 +3,8 @@
 pub mod call;
 pub mod cases;
 pub mod catalogue;
+mod counts;
+pub mod difference;
 pub mod digest;
 pub mod dock;
 pub mod dock_events;

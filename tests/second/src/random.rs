@@ -3,6 +3,8 @@
 pub const EDGE_SVIDS: [u16; 4] = [0x0001, 0xFF00, 0xFF01, 0xFFFF];
 /// One in so many is rare: so is an object or an SVID that is an edge.
 const RARE: usize = 8;
+/// An odd number whose bits are well mixed: 2^64 by the golden ratio.
+const SPREAD: u64 = 0x9E37_79B9_7F4A_7C15;
 
 pub struct Random {
     state: u64,
@@ -12,6 +14,12 @@ impl Random {
     /// The state of an xorshift is never 0, so seed 0 draws as seed 1 does.
     pub fn from_seed(seed: u64) -> Self {
         Random { state: seed.max(1) }
+    }
+
+    /// For seeds that are small numbers in a row, whose first draws would be much alike: their bits
+    /// are spread, and 0 has draws of its own.
+    pub fn from_small_seed(seed: u64) -> Self {
+        Random::from_seed((seed + 1).wrapping_mul(SPREAD))
     }
 
     pub fn word(&mut self) -> u32 {

@@ -1,11 +1,11 @@
 //! Counts what the lines of the programs reach: refusals, states, lists, pages and positions.
 
+use crate::counts::Counts;
 use crate::fields::{LIST_DONE, LIST_OPEN, NOTHING, NO_CANDIDATE};
 use crate::laptop::MOST_PAGES;
 use crate::messages::{ENTER, EXIT, IDENTITY, LAST_MODE_POSITION, LAST_POSITION, MODES, SVIDS};
 use crate::pages::MOST_SVIDS;
 use crate::refusals::{NOT_WHOLE_OBJECTS, NO_END};
-use std::collections::BTreeMap;
 use std::fmt;
 
 /// Every candidate and the commands that are awaited with it; 0 is nothing.
@@ -14,12 +14,12 @@ const STATES: [(&str, &[u8]); 3] = [
     (LIST_OPEN, &[0, SVIDS]),
     (LIST_DONE, &[0, MODES]),
 ];
-/// How a heading begins.
-const HEADING: &[u8] = b"event ";
+/// How a heading can begin.
+const HEADINGS: [&[u8]; 2] = [b"event ", b"stream event "];
 
 #[derive(Default)]
 pub struct Reached {
-    counts: BTreeMap<String, usize>,
+    counts: Counts,
 }
 
 /// The fields of a line, by the columns of its heading.
@@ -40,7 +40,8 @@ impl Line<'_> {
 }
 
 impl Reached {
-    /// Counts each event's line below the heading, and gives how many there were.
+    /// Counts each event's line below the heading, and gives how many there were. Such a line begins
+    /// with a number, and the last line does not.
     pub fn count_lines(&mut self, text: &str) -> usize {
         let mut lines = text.lines();
         let heading = lines.next().unwrap_or_default();
@@ -49,7 +50,7 @@ impl Reached {
             columns: &columns,
             fields: line.split(' ').collect(),
         });
-        let events = lines.filter(|line| line.number("event").is_some());
+        let events = lines.filter(|line| line.number(columns[0]).is_some());
         events.map(|line| self.count_line(&line)).count()
     }
 
@@ -62,20 +63,17 @@ impl Reached {
             mode_of(line),
         ];
         for name in names.into_iter().flatten() {
-            *self.counts.entry(name).or_default() += 1;
+            self.counts.add(name);
         }
     }
 
     pub fn count_of(&self, name: &str) -> usize {
-        self.counts.get(name).copied().unwrap_or(0)
+        self.counts.of(name)
     }
 
     /// A line for each of the names that never occurred.
     pub fn missing(&self, names: &[String]) -> Vec<String> {
-        let missing = names.iter().filter(|name| self.count_of(name) == 0);
-        missing
-            .map(|name| format!("{name} never occurred"))
-            .collect()
+        self.counts.missing(names)
     }
 }
 
@@ -83,17 +81,13 @@ impl Reached {
 impl fmt::Display for Reached {
     fn fmt(&self, formatter: &mut fmt::Formatter) -> fmt::Result {
         let names = [refusals(), beside_refusals()].concat();
-        let rows: Vec<String> = names
-            .iter()
-            .map(|name| format!("{name}: {}", self.count_of(name)))
-            .collect();
-        write!(formatter, "{}", rows.join("\n"))
+        write!(formatter, "{}", self.counts.table(&names))
     }
 }
 
 /// Whether these bytes are lines below a heading, and not a stream.
 pub fn are_lines(bytes: &[u8]) -> bool {
-    bytes.starts_with(HEADING)
+    HEADINGS.iter().any(|heading| bytes.starts_with(heading))
 }
 
 /// The names of all refusals.

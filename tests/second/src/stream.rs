@@ -1,9 +1,12 @@
 //! Streams of bytes that both implementations answer with a line for each item.
 
+use std::fmt;
 use std::io::{self, BufRead, ErrorKind, Read, Write};
 
 /// After so many items the input counts as ended.
 const MOST_ITEMS: usize = 1_000_000;
+/// After so many streams, too.
+const MOST_STREAMS: usize = 1_000_000;
 /// What an output buffer holds before a call.
 pub const UNWRITTEN: u8 = 0x5A;
 
@@ -12,6 +15,8 @@ pub enum Stop {
     End,
     UnknownKind,
     Cut,
+    /// What a stream of link events begins with is cut or breaks a limit.
+    BadDockData,
     Failed(io::Error),
 }
 
@@ -21,6 +26,46 @@ impl From<io::Error> for Stop {
             ErrorKind::UnexpectedEof => Stop::Cut,
             _ => Stop::Failed(error),
         }
+    }
+}
+
+/// A stream by its number, and an event by its number in that stream.
+#[derive(Clone, Copy, Debug, PartialEq, Eq)]
+pub struct Place {
+    pub stream: usize,
+    pub event: usize,
+}
+
+impl Place {
+    /// Before the first event of the first stream.
+    pub const FIRST: Place = Place {
+        stream: 1,
+        event: 0,
+    };
+
+    /// Before the first event of the next stream.
+    pub fn next_stream(self) -> Result<Self, Stop> {
+        if self.stream == MOST_STREAMS {
+            return Err(Stop::End);
+        }
+        Ok(Place {
+            stream: self.stream + 1,
+            event: 0,
+        })
+    }
+
+    pub fn next_event(self) -> Self {
+        Place {
+            event: self.event + 1,
+            ..self
+        }
+    }
+}
+
+/// As the first two columns of a line.
+impl fmt::Display for Place {
+    fn fmt(&self, formatter: &mut fmt::Formatter) -> fmt::Result {
+        write!(formatter, "{} {}", self.stream, self.event)
     }
 }
 
@@ -83,6 +128,7 @@ pub fn print_lines<Input: BufRead, Output: Write>(
         Stop::End => writeln!(output, "end {printed} {items}"),
         Stop::UnknownKind => writeln!(output, "unknown kind after {printed} {items}"),
         Stop::Cut => writeln!(output, "cut after {printed} {items}"),
+        Stop::BadDockData => writeln!(output, "bad dock data"),
         Stop::Failed(error) => Err(error),
     }
 }

@@ -7,7 +7,7 @@ use second::link_events::checks::{
     REFUSED_UNFAIRLY, WRONG_SUM,
 };
 use second::link_events::generator::generate;
-use second::link_events::tally::Tally;
+use second::link_events::tally::{of_one_stream, Tally};
 use second::link_events::{Data, Event, Outcome, Start, System};
 
 const NEXT: Event = Event::Call(Call::Next);
@@ -71,11 +71,10 @@ fn streams_of_every_length_keep_the_demand_and_leave_nothing_out() {
     for seed in 0..73 {
         let (start, events) = generate(seed);
         assert_eq!(start.data.svids.len() as u64, 72 - seed);
-        let mut tally = Tally::new(&start);
-        for event in &events {
-            assert_eq!(tally.count(event), Ok(()));
-        }
-        assert_eq!(tally.missing(), Vec::<String>::new());
+        let mut tally = Tally::default();
+        assert_eq!(tally.count_stream(&start, &events), Ok(()));
+        let expected = of_one_stream(start.data.svids.len());
+        assert_eq!(tally.missing(&expected), Vec::<String>::new());
     }
 }
 

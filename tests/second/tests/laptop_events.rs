@@ -3,16 +3,17 @@
 use second::call::Call;
 use second::laptop::{Candidate, Laptop};
 use second::laptop_events::answers::print_answers;
-use second::laptop_events::generator::{expected, generate};
-use second::laptop_events::{Event, Run};
+use second::laptop_events::generator::{expected, generate, stored_stream, STREAMS};
+use second::laptop_events::tally::Tally;
+use second::laptop_events::{put_streams, Event, Item, Run};
 use second::reached::Reached;
 use std::collections::BTreeSet;
 
 const SEEDS: [u64; 4] = [0, 1, 2, u64::MAX];
-const HEADING: &str = "event refusal sent output told awaited candidate pages held candidate_run \
-    held_run catalogue report\n";
-const KNOWN: [u8; 13] = [
-    0x01, 0x40, 0x41, 0x42, 0x43, 0x44, 0x45, 0x46, 0x47, 0x48, 0x49, 0x4A, 0x4B,
+const HEADING: &str = "stream event refusal sent output told awaited candidate pages held \
+    candidate_run held_run catalogue report\n";
+const KNOWN: [u8; 14] = [
+    0x01, 0x40, 0x41, 0x42, 0x43, 0x44, 0x45, 0x46, 0x47, 0x48, 0x49, 0x4A, 0x4B, 0x4C,
 ];
 /// Both runs as they are at the start, and then with case L's mode.
 const CASE_L: &str = "\
@@ -26,6 +27,7 @@ const CASE_L: &str = "\
 const HELD: &str = "none 1 1 0FDC1314 0FDC1314";
 const FRESH: &str = "none 0 - 5F29F345 5F29F345";
 
+const NEW_STREAM: [u8; 1] = [0x4C];
 const NEXT: [u8; 1] = [0x40];
 const DROP: [u8; 1] = [0x42];
 const ENTRY_TIMER: [u8; 1] = [0x44];
@@ -42,10 +44,24 @@ fn answers(mut stream: &[u8]) -> String {
 
 fn stream(events: &[Event]) -> Vec<u8> {
     let mut stream = Vec::new();
-    for event in events {
-        event.put(&mut stream).unwrap();
-    }
+    put_streams(&[events.to_vec()], &mut stream).unwrap();
     stream
+}
+
+/// The heading, and these lines: those of an event with the number of their stream, 1, before it.
+fn printed_lines(lines: &[&str]) -> String {
+    [HEADING, &in_stream(1, &lines.concat())].concat()
+}
+
+fn in_stream(number: usize, lines: &str) -> String {
+    let lines = lines.split_inclusive('\n');
+    let lines = lines.map(
+        |line| match line.starts_with(|first: char| first.is_ascii_digit()) {
+            true => format!("{number} {line}"),
+            false => line.to_string(),
+        },
+    );
+    lines.collect()
 }
 
 /// A message event, as bytes.
@@ -97,7 +113,7 @@ fn case_l_and_its_22_catalogue_bytes() {
         10 11 - 811C9DC5 - - {HELD} - -\n\
         end 10 events\n"
     );
-    assert_eq!(printed, [HEADING, CASE_L, &lines].concat());
+    assert_eq!(printed, printed_lines(&[CASE_L, &lines]));
 }
 
 #[test]
@@ -131,7 +147,7 @@ fn enter_and_exit_are_sent_told_and_reported() {
         18 13 - 635B1845 - - {HELD} - -\n\
         end 18 events\n"
     );
-    assert_eq!(printed, [HEADING, CASE_L, &lines].concat());
+    assert_eq!(printed, printed_lines(&[CASE_L, &lines]));
 }
 
 #[test]
@@ -146,7 +162,7 @@ fn attention_is_told_with_its_object_or_a_zero() {
         2 0 - - attention:8087:6:1:1234ABCD - {FRESH} - -\n\
         end 2 events\n"
     );
-    assert_eq!(answers(&stream), [HEADING, &lines].concat());
+    assert_eq!(answers(&stream), printed_lines(&[&lines]));
 }
 
 #[test]
@@ -162,7 +178,7 @@ fn messages_have_any_length_up_to_40_and_a_greater_length_counts_as_40() {
         .collect();
     let next = "9 0 01A000FF EE763419 - FF00:1:0 none 0 - 5F29F345 5F29F345 - -\nend 9 events\n";
     let lines = [refused.concat(), next.to_string()].concat();
-    assert_eq!(answers(&stream), [HEADING, &lines].concat());
+    assert_eq!(answers(&stream), printed_lines(&[&lines]));
 }
 
 #[test]
@@ -200,7 +216,7 @@ fn short_runs_and_buffers_are_refused_11() {
         20 0 04A101FF B07E099E - FF01:4:1 {HELD} - -\n\
         end 20 events\n"
     );
-    assert_eq!(printed, [HEADING, CASE_L, &lines].concat());
+    assert_eq!(printed, printed_lines(&[CASE_L, &lines]));
 }
 
 #[test]
@@ -220,12 +236,12 @@ fn greater_lengths_count_as_the_greatest() {
         11 0 01A000FF 458B2B4D - FF00:1:0 none 0 1 0FDC1314 0FDC1314 - -\n\
         end 11 events\n"
     );
-    assert_eq!(printed, [HEADING, CASE_L, &lines].concat());
+    assert_eq!(printed, printed_lines(&[CASE_L, &lines]));
 }
 
 #[test]
 fn an_empty_stream_ends_at_once() {
-    assert_eq!(answers(&[]), [HEADING, "end 0 events\n"].concat());
+    assert_eq!(answers(&[]), printed_lines(&["end 0 events\n"]));
 }
 
 #[test]
@@ -233,7 +249,7 @@ fn any_other_kind_is_unknown_and_stops_the_answers() {
     for kind in (0..=u8::MAX).filter(|kind| !KNOWN.contains(kind)) {
         let printed = answers(&[&DROP[..], &[kind], &NEXT].concat());
         let lines = format!("1 0 - - - - {FRESH} - -\nunknown kind after 1 events\n");
-        assert_eq!(printed, [HEADING, &lines].concat());
+        assert_eq!(printed, printed_lines(&[&lines]));
     }
 }
 
@@ -252,7 +268,7 @@ fn an_event_cut_anywhere_stops_the_answers() {
         for length in 1..event.len() {
             let printed = answers(&[&DROP, &event[..length]].concat());
             let lines = format!("1 0 - - - - {FRESH} - -\ncut after 1 events\n");
-            assert_eq!(printed, [HEADING, &lines].concat());
+            assert_eq!(printed, printed_lines(&[&lines]));
         }
     }
 }
@@ -260,8 +276,81 @@ fn an_event_cut_anywhere_stops_the_answers() {
 #[test]
 fn the_input_counts_as_ended_after_a_million() {
     let printed = answers(&[&DROP.repeat(1_000_000)[..], &[0xFF]].concat());
-    let last = format!("\n1000000 0 - - - - {FRESH} - -\nend 1000000 events\n");
+    let last = format!("\n1 1000000 0 - - - - {FRESH} - -\nend 1000000 events\n");
     assert!(printed.ends_with(&last));
+}
+
+#[test]
+fn a_new_stream_has_a_fresh_laptop_and_counts_its_events_anew() {
+    let short = lengths(3, 0, 0);
+    let streams = [&case_l()[..], &short, &NEW_STREAM, &NEW_STREAM, &case_l()].concat();
+    let first = format!("{CASE_L}7 0 - - - - {HELD} - -\n");
+    let lines = [in_stream(1, &first), in_stream(3, CASE_L)].concat();
+    let expected = [HEADING, &lines, "end 13 events\n"].concat();
+    assert_eq!(answers(&streams), expected);
+}
+
+#[test]
+fn a_new_stream_is_no_event() {
+    let ends = [
+        (&[][..], "end 0 events\n"),
+        (&[0xFF], "unknown kind after 0 events\n"),
+        (&[0x47, 0], "cut after 0 events\n"),
+    ];
+    for (end, last) in ends {
+        let streams = [&NEW_STREAM.repeat(3)[..], end].concat();
+        assert_eq!(answers(&streams), [HEADING, last].concat());
+    }
+}
+
+#[test]
+fn the_input_counts_as_ended_after_a_million_events_or_streams() {
+    let events = [
+        &NEW_STREAM[..],
+        &DROP.repeat(1_000_000),
+        &NEW_STREAM,
+        &[0xFF],
+    ]
+    .concat();
+    let last = format!("\n2 1000000 0 - - - - {FRESH} - -\nend 1000000 events\n");
+    assert!(answers(&events).ends_with(&last));
+    let streams = [&NEW_STREAM.repeat(999_999)[..], &DROP, &NEW_STREAM, &DROP].concat();
+    let lines = format!("1000000 1 0 - - - - {FRESH} - -\nend 1 events\n");
+    assert_eq!(answers(&streams), [HEADING, &lines].concat());
+}
+
+#[test]
+fn stored_streams_are_many_and_leave_nothing_out() {
+    let streams: Vec<Vec<Event>> = (1..=STREAMS).map(stored_stream).collect();
+    assert!(streams.len() >= 2000);
+    let mut bytes = Vec::new();
+    put_streams(&streams, &mut bytes).unwrap();
+    let printed = answers(&bytes);
+    assert!(printed.len() <= 5_500_000);
+    let mut reached = Reached::default();
+    let events: usize = streams.iter().map(Vec::len).sum();
+    assert_eq!(reached.count_lines(&printed), events);
+    let mut tally = Tally::default();
+    streams.iter().for_each(|events| tally.count_stream(events));
+    let missing = [reached.missing(&expected()), tally.missing()].concat();
+    assert_eq!(missing, Vec::<String>::new());
+}
+
+#[test]
+fn a_stored_stream_alone_is_answered_as_among_all() {
+    let streams: Vec<Vec<Event>> = (2..=5).map(stored_stream).collect();
+    let mut bytes = Vec::new();
+    put_streams(&streams, &mut bytes).unwrap();
+    let printed = answers(&bytes);
+    for (place, events) in streams.iter().enumerate() {
+        let alone = answers(&stream(events));
+        let alone = alone.lines().filter_map(|line| line.strip_prefix("1 "));
+        let number = format!("{} ", place + 1);
+        let among = printed
+            .lines()
+            .filter_map(|line| line.strip_prefix(&number));
+        assert!(alone.eq(among));
+    }
 }
 
 #[test]
@@ -274,7 +363,8 @@ fn generated_events_leave_nothing_out_and_come_back_from_bytes() {
         assert_eq!(reached.missing(&expected()), Vec::<String>::new());
         let mut input = &stream[..];
         for event in &events {
-            assert_eq!(Event::take(&mut input).ok().as_ref(), Some(event));
+            let item = Item::take(&mut input).ok();
+            assert_eq!(item, Some(Item::Event(event.clone())));
         }
         assert!(input.is_empty());
         assert!(events.len() <= 40_000 && stream.len() <= 400_000);

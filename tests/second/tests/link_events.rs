@@ -1,13 +1,15 @@
 //! The stream of link events and its answers, held against lines written by hand.
 
 use second::link_events::answers::print_answers;
-use second::link_events::generator::generate;
-use second::link_events::{Data, Event, Start};
+use second::link_events::generator::{generate, stored_stream, STREAMS};
+use second::link_events::tally::{all, Tally};
+use second::link_events::{put_streams, Data, Event, Item, Start};
 
-const HEADING: &str = "event permitted refusal pages candidate held catalogue page lost\n";
-const KNOWN: [u8; 15] = [
-    0x40, 0x41, 0x42, 0x43, 0x46, 0x47, 0x48, 0x50, 0x51, 0x52, 0x53, 0x54, 0x55, 0x56, 0x57,
+const HEADING: &str = "stream event permitted refusal pages candidate held catalogue page lost\n";
+const KNOWN: [u8; 16] = [
+    0x40, 0x41, 0x42, 0x43, 0x46, 0x47, 0x48, 0x50, 0x51, 0x52, 0x53, 0x54, 0x55, 0x56, 0x57, 0x58,
 ];
+const NEW_STREAM: u8 = 0x58;
 const DROP: u8 = 0x42;
 const TIMER: u8 = 0x43;
 const ENTER: [u8; 4] = [0x47, 0x01, 0xFF, 1];
@@ -20,6 +22,18 @@ fn answers(mut stream: &[u8]) -> String {
     let mut output = Vec::new();
     print_answers(&mut stream, &mut output).unwrap();
     String::from_utf8(output).unwrap()
+}
+
+/// The heading, and these lines: those of an event with the number of their stream, 1, before it.
+fn printed_lines(lines: &str) -> String {
+    let lines = lines.split_inclusive('\n');
+    let lines = lines.map(
+        |line| match line.starts_with(|first: char| first.is_ascii_digit()) {
+            true => format!("1 {line}"),
+            false => line.to_string(),
+        },
+    );
+    [HEADING.to_string()].into_iter().chain(lines).collect()
 }
 
 /// Identity 7, 8, 9 and these SVIDs with one mode each; the dock on that page, the old or none.
@@ -73,7 +87,7 @@ fn every_form_of_line_is_as_agreed() {
         27 permitted 0 1 none 1 B1338CC3 0 0\n\
         end 27 events\n";
     let stream = [start(&[0xFF01], 0x405, 0, 1), events].concat();
-    assert_eq!(answers(&stream), [HEADING, lines].concat());
+    assert_eq!(answers(&stream), printed_lines(lines));
 }
 
 #[test]
@@ -83,15 +97,15 @@ fn case_11_has_one_confirmation_lost_and_three_pages() {
     let stream = [start(&svids, 0xA, 5, 0), pages, EXCHANGE.repeat(13)].concat();
     let printed = answers(&stream);
     let lines: Vec<&str> = printed.lines().collect();
-    assert_eq!(lines[1], "1 permitted 0 0 none - - 1 0");
-    assert_eq!(lines[2], "2 permitted 0 0 none - - 0 0");
-    assert_eq!(lines[9], "9 permitted 0 1 open:12 - - 0 0");
-    assert_eq!(lines[10], "10 permitted 0 1 open:12 - - 0 1");
-    assert_eq!(lines[14], "14 permitted 0 2 open:12 - - 0 1");
-    assert_eq!(lines[15], "15 permitted 0 2 open:12 - - 1 1");
-    assert_eq!(lines[19], "19 permitted 0 3 done:13:0 - - 1 1");
-    assert_eq!(lines[83], "83 permitted 0 3 done:13:12 - - 1 1");
-    assert_eq!(lines[84], "84 permitted 0 3 none 13 C8C7028F 1 1");
+    assert_eq!(lines[1], "1 1 permitted 0 0 none - - 1 0");
+    assert_eq!(lines[2], "1 2 permitted 0 0 none - - 0 0");
+    assert_eq!(lines[9], "1 9 permitted 0 1 open:12 - - 0 0");
+    assert_eq!(lines[10], "1 10 permitted 0 1 open:12 - - 0 1");
+    assert_eq!(lines[14], "1 14 permitted 0 2 open:12 - - 0 1");
+    assert_eq!(lines[15], "1 15 permitted 0 2 open:12 - - 1 1");
+    assert_eq!(lines[19], "1 19 permitted 0 3 done:13:0 - - 1 1");
+    assert_eq!(lines[83], "1 83 permitted 0 3 done:13:12 - - 1 1");
+    assert_eq!(lines[84], "1 84 permitted 0 3 none 13 C8C7028F 1 1");
     assert_eq!(lines[86], "end 85 events");
 }
 
@@ -99,7 +113,7 @@ fn case_11_has_one_confirmation_lost_and_three_pages() {
 fn an_empty_list_is_held_after_its_nak() {
     let stream = [start(&[], 0, 0, 0), EXCHANGE.repeat(2)].concat();
     let printed = answers(&stream);
-    let last = "10 permitted 0 0 none 0 414E757C 0 0\nend 10 events\n";
+    let last = "1 10 permitted 0 0 none 0 414E757C 0 0\nend 10 events\n";
     assert!(printed.ends_with(last));
 }
 
@@ -140,7 +154,7 @@ fn any_other_kind_is_unknown_and_stops_the_answers() {
     for kind in (0..=u8::MAX).filter(|kind| !KNOWN.contains(kind)) {
         let printed = answers(&[&one()[..], &[DROP, kind, DROP]].concat());
         let lines = "1 permitted 0 0 none - - 0 0\nunknown kind after 1 events\n";
-        assert_eq!(printed, [HEADING, lines].concat());
+        assert_eq!(printed, printed_lines(lines));
     }
 }
 
@@ -151,7 +165,7 @@ fn an_event_cut_anywhere_stops_the_answers() {
             let event = [kind, 0x01, 0xFF, 1];
             let printed = answers(&[&one()[..], &[DROP], &event[..length]].concat());
             let lines = "1 permitted 0 0 none - - 0 0\ncut after 1 events\n";
-            assert_eq!(printed, [HEADING, lines].concat());
+            assert_eq!(printed, printed_lines(lines));
         }
     }
 }
@@ -159,8 +173,50 @@ fn an_event_cut_anywhere_stops_the_answers() {
 #[test]
 fn the_input_counts_as_ended_after_a_million() {
     let printed = answers(&[one(), vec![DROP; 1_000_001]].concat());
-    let last = "\n1000000 permitted 0 0 none - - 0 0\nend 1000000 events\n";
+    let last = "\n1 1000000 permitted 0 0 none - - 0 0\nend 1000000 events\n";
     assert!(printed.ends_with(last));
+}
+
+#[test]
+fn a_new_stream_has_its_own_start_and_counts_its_events_anew() {
+    let empty = start(&[], 0, 0, 0);
+    let old = start(&[0xFF01], 0x405, 0, 1);
+    let streams = [
+        [&empty[..], &EXCHANGE.repeat(2), &[NEW_STREAM]].concat(),
+        [&empty[..], &[NEW_STREAM]].concat(),
+        [&old[..], &[DROP]].concat(),
+    ]
+    .concat();
+    let printed = answers(&streams);
+    assert!(printed.contains("\n1 10 permitted 0 0 none 0 414E757C 0 0\n3 1 permitted"));
+    let last = "\n3 1 permitted 0 1 none 1 E3C0FFF3 0 0\nend 11 events\n";
+    assert!(printed.ends_with(last));
+}
+
+#[test]
+fn bad_data_of_any_stream_is_the_last_line() {
+    for length in 0..one().len() {
+        let streams = [&one()[..], &[DROP, NEW_STREAM], &one()[..length]].concat();
+        let lines = "1 permitted 0 0 none - - 0 0\nbad dock data\n";
+        assert_eq!(answers(&streams), printed_lines(lines));
+    }
+}
+
+#[test]
+fn stored_streams_are_many_and_leave_nothing_out() {
+    let streams: Vec<(Start, Vec<Event>)> = (1..=STREAMS).map(stored_stream).collect();
+    assert!(streams.len() >= 1000);
+    let mut tally = Tally::default();
+    for (start, events) in &streams {
+        assert_eq!(tally.count_stream(start, events), Ok(()));
+    }
+    assert_eq!(tally.missing(&all()), Vec::<String>::new());
+    let mut bytes = Vec::new();
+    put_streams(&streams, &mut bytes).unwrap();
+    let events: usize = streams.iter().map(|(_, events)| events.len()).sum();
+    let printed = answers(&bytes);
+    assert!(printed.len() <= 5_500_000);
+    assert!(printed.ends_with(&format!("\nend {events} events\n")));
 }
 
 #[test]
@@ -168,14 +224,11 @@ fn generated_streams_come_back_from_bytes_and_are_answered_to_their_end() {
     for seed in [0, 1, 12, 72, u64::MAX] {
         let (start, events) = generate(seed);
         let mut stream = Vec::new();
-        start.put(&mut stream).unwrap();
-        events
-            .iter()
-            .for_each(|event| event.put(&mut stream).unwrap());
+        put_streams(&[(start.clone(), events.clone())], &mut stream).unwrap();
         let mut input = &stream[..];
         assert_eq!(Start::take(&mut input), Ok(start));
         for event in &events {
-            assert_eq!(Event::take(&mut input).ok().as_ref(), Some(event));
+            assert_eq!(Item::take(&mut input).ok(), Some(Item::Event(*event)));
         }
         assert!(input.is_empty() && stream.len() <= 20_000);
         let last = format!("\nend {} events\n", events.len());

@@ -2,15 +2,15 @@
 
 use second::reached::{are_lines, beside_refusals, refusals, Reached};
 
-const LAPTOP: &str = "event refusal sent output told awaited candidate pages held candidate_run \
-    held_run catalogue report\n\
-    1 0 01A000FF EE763419 - FF00:1:0 none 0 - 5F29F345 5F29F345 - -\n\
-    2 0 - - - - open:0 0 - 5F29F345 5F29F345 - -\n\
-    3 11 - - - - open:0 199 - 5F29F345 5F29F345 - -\n\
-    4 0 - - - FF01:3:0 done:2:1 200 0 5F29F345 5F29F345 - -\n\
-    5 0 04A301FF 5CCE87A6 - FF01:4:3 none 1 72 0FDC1314 0FDC1314 - -\n\
-    6 7 - - - FF01:4:3 none 1 72 0FDC1314 0FDC1314 - -\n\
-    7 0 05A701FF 5CCE87A6 - FF01:5:7 none 1 72 0FDC1314 0FDC1314 - -\n\
+const LAPTOP: &str = "stream event refusal sent output told awaited candidate pages held \
+    candidate_run held_run catalogue report\n\
+    1 1 0 01A000FF EE763419 - FF00:1:0 none 0 - 5F29F345 5F29F345 - -\n\
+    1 2 0 - - - - open:0 0 - 5F29F345 5F29F345 - -\n\
+    1 3 11 - - - - open:0 199 - 5F29F345 5F29F345 - -\n\
+    1 4 0 - - - FF01:3:0 done:2:1 200 0 5F29F345 5F29F345 - -\n\
+    2 1 0 04A301FF 5CCE87A6 - FF01:4:3 none 1 72 0FDC1314 0FDC1314 - -\n\
+    2 2 7 - - - FF01:4:3 none 1 72 0FDC1314 0FDC1314 - -\n\
+    2 3 0 05A701FF 5CCE87A6 - FF01:5:7 none 1 72 0FDC1314 0FDC1314 - -\n\
     unknown kind after 7 events\n";
 const WATCHER: &str = "event refusal sent pages held\n\
     1 13 - 200 5\n\
@@ -19,9 +19,9 @@ const WATCHER: &str = "event refusal sent pages held\n\
 const DOCK: &str = "event refusal length buffer standing page count\n\
     1 10 0 5A5A ready 0 0\n\
     end 1 events\n";
-const LINK: &str = "event permitted refusal pages candidate held catalogue page lost\n\
-    1 permitted 9 0 none - - 0 0\n\
-    2 - - 0 none 1 E3C0FFF3 0 0\n\
+const LINK: &str = "stream event permitted refusal pages candidate held catalogue page lost\n\
+    1 1 permitted 9 0 none - - 0 0\n\
+    1 2 - - 0 none 1 E3C0FFF3 0 0\n\
     end 2 events\n";
 
 fn reached(texts: &[&str]) -> Reached {

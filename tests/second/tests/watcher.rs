@@ -3,6 +3,7 @@
 use second::call::Call;
 use second::laptop::{Candidate, Laptop};
 use second::watcher::answers::print_answers;
+use second::watcher::edges::edges;
 use second::watcher::generator::generate;
 use second::watcher::tally::Tally;
 use second::watcher::{Event, Run};
@@ -301,5 +302,22 @@ fn no_mode_is_entered_while_there_is_a_candidate_or_identity_is_awaited() {
                 .iter()
                 .all(|&svid| laptop.entered_count(svid) == 0));
         }
+    }
+}
+
+#[test]
+fn the_edges_of_the_input_end_as_they_should() {
+    let edges = edges();
+    let bodies = 4 * (1 + 2 + 3 + 4 + 5 + 6 + 7) + 2 * 3;
+    assert_eq!(edges.len(), 1 + bodies + (256 - KNOWN.len()) + 2);
+    for (name, stream) in &edges {
+        let printed = answers(stream);
+        let last = match &name[..] {
+            "empty" => "end 0 events",
+            "1000000_events" | "1000001_events" => "end 1000000 events",
+            name if name.ends_with("_unknown") => "unknown kind after 1 events",
+            _ => "cut after 1 events",
+        };
+        assert_eq!(printed.lines().last(), Some(last), "{name}");
     }
 }

@@ -1,40 +1,36 @@
--- `link_events::answer_all` is safe and ends. The measure is how many events may still come, and nothing has to hold from turn to turn.
+-- `link_events::answer_all` is safe and ends. The measure is how many streams may still come, and nothing has to hold from turn to turn.
 -- Assumes nothing.
-use native.Mathlib.Omega.{arith}
 use Prim.Native.Nat.{_-_}
 use borrow.Author.Needs.{needs}
 use Rattle.link_events.proofs.answer_all.Statement.{statement}
 use Rattle.link_events.proofs.answer_all.Tie as tie
 
 abbrev Inv-loop : tie.InvT-loop
-Inv-loop counts words svids₀ modes₀ identity₀ run₀ held-svids₀ held-modes₀ held-identity₀ held-run₀ entered₀ state₀ count₀ svids modes identity run held-svids held-modes held-identity held-run entered state count = Unit {0}
+Inv-loop finish₀ stream₀ finish stream = Unit {0}
 
 abbrev μ-loop : tie.MeasureT-loop
-μ-loop counts words svids₀ modes₀ identity₀ run₀ held-svids₀ held-modes₀ held-identity₀ held-run₀ entered₀ state₀ count₀ svids modes identity run held-svids held-modes held-identity held-run entered state count = 1000000 - count
+μ-loop finish₀ stream₀ finish stream = 1000000 - stream
+
+answer-stream-requires : tie.Need-answer-stream-requires Inv-loop μ-loop
+answer-stream-requires c κs = search needs
 
 loop-holds : tie.Need-loop-holds Inv-loop μ-loop
 loop-holds c = search needs
 
-take-event-requires : tie.Need-take-event-requires Inv-loop μ-loop
-take-event-requires c κs = search needs
-
-enum-known-taken : tie.Need-enum-known-taken Inv-loop μ-loop
-enum-known-taken c = search needs
+enum-told : tie.Need-enum-told Inv-loop μ-loop
+enum-told c = search needs
 
 returns : tie.Need-returns Inv-loop μ-loop
 returns c = search needs
 
-take-requires : tie.Need-take-requires Inv-loop μ-loop
-take-requires c κs = search needs
+add-stream : tie.Need-add-stream Inv-loop μ-loop
+add-stream c = search needs
 
-add-count : tie.Need-add-count Inv-loop μ-loop
-add-count c = search needs
-
-print-event-requires : tie.Need-print-event-requires Inv-loop μ-loop
-print-event-requires c κs = search needs
+answer-stream-requires-2 : tie.Need-answer-stream-requires-2 Inv-loop μ-loop
+answer-stream-requires-2 c κs = search needs
 
 loop-less : tie.Need-loop-less Inv-loop μ-loop
-loop-less c = omega (arith, c .before .before .before .before .before .before .before .before .before .before .before .before .before .before .before .before .before .before .before .before .loop-test .taken)
+loop-less c = search needs
 
 loop-again : tie.Need-loop-again Inv-loop μ-loop
 loop-again c = search needs
@@ -48,13 +44,12 @@ answer-all-spec =
     (tie.spec
     Inv-loop
     μ-loop
+    answer-stream-requires
     loop-holds
-    take-event-requires
-    enum-known-taken
+    enum-told
     returns
-    take-requires
-    add-count
-    print-event-requires
+    add-stream
+    answer-stream-requires-2
     loop-less
     loop-again
     returns-2)

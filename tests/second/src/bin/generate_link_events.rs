@@ -1,22 +1,37 @@
-//! Prints a stream of link events, the same for the same seed, and counts on standard error what
-//! they reach. The seed can be given, in decimal, as the first argument.
+//! Prints streams of link events, the same each time, and counts on standard error what they reach:
+//! all that are stored; with `--stream` and a number, that one alone; with a seed, in decimal, a
+//! long one.
 
-use second::generating::{print, seed};
-use second::link_events::generator::generate;
-use second::link_events::tally::Tally;
+use second::generating::{asked, print, Asked};
+use second::link_events::generator::{generate, stored_stream, STREAMS};
+use second::link_events::put_streams;
+use second::link_events::tally::{all, of_one_stream, Tally};
 use std::error::Error;
 use std::process::ExitCode;
 
 fn main() -> Result<ExitCode, Box<dyn Error>> {
-    let (start, events) = generate(seed()?);
-    let mut tally = Tally::new(&start);
-    let mut stream = Vec::new();
-    start.put(&mut stream)?;
-    for event in &events {
-        tally.count(event)?;
-        event.put(&mut stream)?;
+    let asked = asked()?;
+    let streams = match asked {
+        Asked::Stored => (1..=STREAMS).map(stored_stream).collect(),
+        Asked::Stream(number) => vec![stored_stream(number)],
+        Asked::Seed(seed) => vec![generate(seed)],
+    };
+    let mut bytes = Vec::new();
+    put_streams(&streams, &mut bytes)?;
+    let mut tally = Tally::default();
+    for (start, events) in &streams {
+        tally.count_stream(start, events)?;
     }
-    let totals = format!("events: {}, bytes: {}", events.len(), stream.len());
-    let counts = format!("{tally}\n{totals}");
-    Ok(print(&stream, counts, &tally.missing())?)
+    let events: usize = streams.iter().map(|(_, events)| events.len()).sum();
+    let counts = format!(
+        "{}\nevents: {events}, bytes: {}",
+        tally.table(),
+        bytes.len()
+    );
+    let expected = match asked {
+        Asked::Stored => all(),
+        Asked::Stream(_) => Vec::new(),
+        Asked::Seed(_) => of_one_stream(streams[0].0.data.svids.len()),
+    };
+    Ok(print(&bytes, counts, &tally.missing(&expected))?)
 }

@@ -1,8 +1,8 @@
-//! Counts what the files given reach, each of them lines of laptop_events, dock_events or watcher,
-//! or a stream of laptop events. Fails if a refusal number from 1 to 14 was never reached.
+//! Counts what the files given reach, each of them lines of laptop_events, dock_events, watcher or
+//! link_events, or a stream of laptop events. Fails if something of the table was never reached.
 
 use second::laptop_events::answers::print_answers;
-use second::reached::{are_lines, refusals, Reached};
+use second::reached::{are_lines, beside_refusals, refusals, Reached};
 use std::error::Error;
 use std::fs;
 use std::process::ExitCode;
@@ -15,7 +15,7 @@ fn main() -> Result<ExitCode, Box<dyn Error>> {
         println!("{path}: {count} events");
     }
     println!("{reached}");
-    let missing = reached.missing(&refusals());
+    let missing = reached.missing(&[refusals(), beside_refusals()].concat());
     for line in &missing {
         println!("{line}");
     }

@@ -1,25 +1,42 @@
 //! Answers a stream of laptop events, a line each.
 
-use super::{Event, Outcome, Run};
+use super::{Event, Item, Outcome, Run};
 use crate::digest;
 use crate::fields::{self, or_nothing};
-use crate::stream::{print_hex, print_lines};
+use crate::stream::{print_hex, print_lines, Place, Stop};
 use std::io::{self, BufRead, Write};
 
-const HEADING: &str = "event refusal sent output told awaited candidate pages held candidate_run \
-    held_run catalogue report";
+const HEADING: &str = "stream event refusal sent output told awaited candidate pages held \
+    candidate_run held_run catalogue report";
 
 pub fn print_answers(input: &mut impl BufRead, output: &mut impl Write) -> io::Result<()> {
     writeln!(output, "{HEADING}")?;
     let mut run = Run::default();
-    print_lines("events", input, output, |number, input, output| {
-        let event = Event::take(input)?;
+    let mut place = Place::FIRST;
+    print_lines("events", input, output, |_, input, output| {
+        let event = take_event(input, &mut run, &mut place)?;
         let outcome = run.take(&event);
-        write!(output, "{number} ")?;
+        write!(output, "{place} ")?;
         print_outcome(&outcome, output)?;
         print_laptop(&run, output)?;
         Ok(print_readings(&outcome, output)?)
     })
+}
+
+/// The next event, which may be that of a new stream: then the laptop is fresh.
+fn take_event(input: &mut impl BufRead, run: &mut Run, place: &mut Place) -> Result<Event, Stop> {
+    loop {
+        match Item::take(input)? {
+            Item::NewStream => {
+                *place = place.next_stream()?;
+                *run = Run::default();
+            }
+            Item::Event(event) => {
+                *place = place.next_event();
+                return Ok(event);
+            }
+        }
+    }
 }
 
 /// What the call itself led to.

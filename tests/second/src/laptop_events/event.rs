@@ -8,11 +8,19 @@ const MESSAGE: u8 = 0x01;
 const REPORT: u8 = 0x49;
 const WRITE_CATALOGUE: u8 = 0x4A;
 const LENGTHS: u8 = 0x4B;
+const NEW_STREAM: u8 = 0x4C;
 
 /// A greater number in the stream counts as this one.
 pub const MOST_MESSAGE_BYTES: u8 = 40;
 pub const MOST_CATALOGUE_ROOM: u16 = 2500;
 pub const WHOLE_RUN: u16 = 440;
+
+/// What stands next in the input.
+#[derive(Clone, Debug, PartialEq, Eq)]
+pub enum Item {
+    Event(Event),
+    NewStream,
+}
 
 #[derive(Clone, Debug, PartialEq, Eq)]
 pub enum Event {
@@ -39,9 +47,32 @@ pub struct Lengths {
     pub held: u16,
 }
 
-impl Event {
+impl Item {
     pub fn take(input: &mut impl BufRead) -> Result<Self, Stop> {
         Ok(match take_kind(input)? {
+            NEW_STREAM => Item::NewStream,
+            kind => Item::Event(Event::take(kind, input)?),
+        })
+    }
+}
+
+/// Puts the streams one after the other.
+pub fn put_streams(streams: &[Vec<Event>], output: &mut impl Write) -> io::Result<()> {
+    for (place, events) in streams.iter().enumerate() {
+        if place > 0 {
+            output.write_all(&[NEW_STREAM])?;
+        }
+        for event in events {
+            event.put(output)?;
+        }
+    }
+    Ok(())
+}
+
+impl Event {
+    /// The event that this byte opens.
+    fn take(kind: u8, input: &mut impl Read) -> Result<Self, Stop> {
+        Ok(match kind {
             MESSAGE => Self::take_message(input)?,
             REPORT => {
                 let svid = u16::from_le_bytes(take_bytes(input)?);
@@ -72,7 +103,7 @@ impl Event {
         }
     }
 
-    pub fn put(&self, output: &mut impl Write) -> io::Result<()> {
+    fn put(&self, output: &mut impl Write) -> io::Result<()> {
         output.write_all(&[self.kind()])?;
         match self {
             Event::Message { bytes } => {

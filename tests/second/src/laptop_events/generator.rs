@@ -15,8 +15,12 @@ use crate::reached::{beside_refusals, refusals};
 use crate::watcher;
 use std::collections::BTreeSet;
 
+/// How many streams are stored.
+pub const STREAMS: u64 = 2048;
 /// The refusal that is the dock's alone.
 const OF_THE_DOCK: &str = "refusal 10";
+/// In a short stream, one event in so many has others before or after it.
+const SELDOM: usize = 24;
 
 struct Generator {
     random: Random,
@@ -30,16 +34,23 @@ struct Generator {
 /// All events of a seed, in the order of the stream. The sequences before the watcher's events
 /// leave a laptop that awaits, gathers and holds nothing, as those events expect it.
 pub fn generate(seed: u64) -> Vec<Event> {
-    let mut generator = Generator {
-        random: Random::from_seed(seed),
-        run: Run::default(),
-        situations: BTreeSet::new(),
-        events: Vec::new(),
-    };
+    let mut generator = Generator::of(Random::from_seed(seed));
     generator.nothing_held();
     generator.past_two_hundred();
     for event in watcher::generator::generate(seed) {
         generator.among(&event.into());
+    }
+    generator.events
+}
+
+/// The stored stream of that number, which is its seed: a long one first, and then short ones.
+pub fn stored_stream(number: u64) -> Vec<Event> {
+    if number <= 1 {
+        return generate(number);
+    }
+    let mut generator = Generator::of(Random::from_small_seed(number));
+    for event in watcher::generator::generate_short(number - 2) {
+        generator.seldom_among(&event.into());
     }
     generator.events
 }
@@ -67,6 +78,15 @@ impl Event {
 }
 
 impl Generator {
+    fn of(random: Random) -> Self {
+        Generator {
+            random,
+            run: Run::default(),
+            situations: BTreeSet::new(),
+            events: Vec::new(),
+        }
+    }
+
     fn push(&mut self, event: Event) -> Outcome {
         let outcome = self.run.take(&event);
         self.events.push(event);
@@ -95,6 +115,32 @@ impl Generator {
         }
         if self.random.is_rare() {
             self.drawn_reading(event);
+        }
+    }
+
+    /// As among others, but of those only one sort at a time.
+    fn seldom_among(&mut self, event: &Event) {
+        let held_before = self.run.laptop().held().cloned();
+        match self.random.below(SELDOM) {
+            0 => self.with_drawn_lengths(event),
+            1 => {
+                self.with_each_short_length(event);
+                self.push(event.clone());
+            }
+            2 => {
+                self.damaged(event);
+                self.push(event.clone());
+            }
+            3 => {
+                self.drawn_reading(event);
+                self.push(event.clone());
+            }
+            _ => {
+                self.push(event.clone());
+            }
+        }
+        if self.run.laptop().held() != held_before.as_ref() {
+            self.catalogue_at_its_length();
         }
     }
 

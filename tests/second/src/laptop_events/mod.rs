@@ -5,6 +5,7 @@ pub mod answers;
 mod event;
 pub mod generator;
 mod run;
+pub mod tally;
 
-pub use event::Event;
+pub use event::{put_streams, Event, Item};
 pub use run::{Outcome, Run};

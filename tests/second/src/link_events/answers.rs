@@ -1,52 +1,86 @@
 //! Answers a stream of link events, a line each, as long as demand 3 holds.
 
 use super::checks::{Demand, Observed};
-use super::{Event, Outcome, Start, System};
+use super::{Event, Item, Outcome, Start, System};
 use crate::fields::{self, or_nothing, NOTHING};
-use crate::stream::print_lines;
+use crate::stream::{print_lines, Place, Stop};
 use std::io::{self, BufRead, Write};
 
-const HEADING: &str = "event permitted refusal pages candidate held catalogue page lost";
+const HEADING: &str = "stream event permitted refusal pages candidate held catalogue page lost";
+
+/// A stream under its events so far.
+struct Course {
+    place: Place,
+    system: System,
+    demand: Demand,
+}
 
 /// Fails with what breaks the demand, which is also the last line.
 pub fn print_answers(input: &mut impl BufRead, output: &mut impl Write) -> io::Result<()> {
     writeln!(output, "{HEADING}")?;
-    let Ok(start) = Start::take(input) else {
-        return writeln!(output, "bad dock data");
-    };
-    let mut system = System::begin(&start);
-    let mut demand = Demand::of(&system);
-    print_lines("events", input, output, |number, input, output| {
-        let event = Event::take(input)?;
-        let outcome = system.take(&event);
-        print_answer(number, outcome, &system, output)?;
-        let check = demand.check(&event, outcome, Observed::of(&system));
-        Ok(check.or_else(|broken| report_broken(number, broken, output))?)
+    let mut course = None;
+    print_lines("events", input, output, |_, input, output| {
+        let course = match &mut course {
+            Some(course) => course,
+            none => none.insert(Course::begin(Place::FIRST, input)?),
+        };
+        let event = course.take_event(input)?;
+        let outcome = course.system.take(&event);
+        print_answer(course, outcome, output)?;
+        let observed = Observed::of(&course.system);
+        let check = course.demand.check(&event, outcome, observed);
+        Ok(check.or_else(|broken| report_broken(course.place, broken, output))?)
     })
 }
 
-fn print_answer(
-    number: usize,
-    outcome: Outcome,
-    system: &System,
-    output: &mut impl Write,
-) -> io::Result<()> {
+impl Course {
+    fn begin(place: Place, input: &mut impl BufRead) -> Result<Self, Stop> {
+        let system = System::begin(&Start::take(input)?);
+        Ok(Course {
+            place,
+            demand: Demand::of(&system),
+            system,
+        })
+    }
+
+    /// The next event, which may be that of a new stream.
+    fn take_event(&mut self, input: &mut impl BufRead) -> Result<Event, Stop> {
+        loop {
+            match Item::take(input)? {
+                Item::NewStream => {
+                    *self = Course::begin(self.place.next_stream()?, input)?;
+                }
+                Item::Event(event) => {
+                    self.place = self.place.next_event();
+                    return Ok(event);
+                }
+            }
+        }
+    }
+}
+
+fn print_answer(course: &Course, outcome: Outcome, output: &mut impl Write) -> io::Result<()> {
     let permitted = if outcome.permitted {
         "permitted"
     } else {
         NOTHING
     };
+    let Course { place, system, .. } = course;
     let refusal = or_nothing(outcome.refusal.map(|refusal| refusal.to_string()));
     let pages = system.laptop().page_count();
     let candidate = fields::candidate(system.laptop().candidate());
-    write!(output, "{number} {permitted} {refusal} {pages} {candidate}")?;
+    write!(output, "{place} {permitted} {refusal} {pages} {candidate}")?;
     let held = fields::held_count(system.laptop());
     let catalogue = or_nothing(system.held_bytes().as_deref().map(fields::digest_of));
     let (page, lost) = (system.dock().page(), system.confirmations_lost());
     writeln!(output, " {held} {catalogue} {page} {lost}")
 }
 
-fn report_broken(number: usize, broken: &str, output: &mut impl Write) -> io::Result<()> {
-    writeln!(output, "demand 3 is broken at event {number}: {broken}")?;
+fn report_broken(place: Place, broken: &str, output: &mut impl Write) -> io::Result<()> {
+    let Place { stream, event } = place;
+    writeln!(
+        output,
+        "demand 3 is broken in stream {stream} at event {event}: {broken}"
+    )?;
     Err(io::Error::other(broken))
 }

@@ -1,8 +1,9 @@
 //! One event at the ends or on the link, and its form as bytes.
 
+use super::Start;
 use crate::call::{Call, DROP, ENTER, EXIT, NEXT, PROTOCOL_ERROR, RESPONSE_TIMER, START_OVER};
 use crate::stream::{take_kind, Stop};
-use std::io::{self, BufRead, Write};
+use std::io::{self, BufRead, Read, Write};
 
 const TIMER: u8 = RESPONSE_TIMER;
 const REQUEST_REACHES: u8 = 0x50;
@@ -13,6 +14,14 @@ const ANSWER_ARRIVES: u8 = 0x54;
 const ANSWER_LOST: u8 = 0x55;
 const SENT: u8 = 0x56;
 const FAILED: u8 = 0x57;
+const NEW_STREAM: u8 = 0x58;
+
+/// What stands next in the input. A new stream is followed by what it begins with.
+#[derive(Clone, Copy, Debug, PartialEq, Eq)]
+pub enum Item {
+    Event(Event),
+    NewStream,
+}
 
 #[derive(Clone, Copy, Debug, PartialEq, Eq)]
 pub enum Event {
@@ -34,6 +43,29 @@ pub enum Event {
     Failed,
 }
 
+impl Item {
+    pub fn take(input: &mut impl BufRead) -> Result<Self, Stop> {
+        Ok(match take_kind(input)? {
+            NEW_STREAM => Item::NewStream,
+            kind => Item::Event(Event::take(kind, input)?),
+        })
+    }
+}
+
+/// Puts the streams one after the other.
+pub fn put_streams(streams: &[(Start, Vec<Event>)], output: &mut impl Write) -> io::Result<()> {
+    for (place, (start, events)) in streams.iter().enumerate() {
+        if place > 0 {
+            output.write_all(&[NEW_STREAM])?;
+        }
+        start.put(output)?;
+        for event in events {
+            event.put(output)?;
+        }
+    }
+    Ok(())
+}
+
 impl Event {
     /// Every event but a call, which is always permitted.
     pub const BESIDE_CALLS: [Event; 9] = [
@@ -48,9 +80,10 @@ impl Event {
         Event::Failed,
     ];
 
-    pub fn take(input: &mut impl BufRead) -> Result<Self, Stop> {
-        Ok(match take_kind(input)? {
-            kind @ (NEXT | START_OVER | DROP | PROTOCOL_ERROR | ENTER | EXIT) => {
+    /// The event that this byte opens.
+    fn take(kind: u8, input: &mut impl Read) -> Result<Self, Stop> {
+        Ok(match kind {
+            NEXT | START_OVER | DROP | PROTOCOL_ERROR | ENTER | EXIT => {
                 Event::Call(Call::take(kind, input)?)
             }
             TIMER => Event::Timer,
@@ -81,7 +114,7 @@ impl Event {
         }
     }
 
-    pub fn put(&self, output: &mut impl Write) -> io::Result<()> {
+    fn put(&self, output: &mut impl Write) -> io::Result<()> {
         output.write_all(&[self.kind()])?;
         match self {
             Event::Call(call) => call.put_body(output),

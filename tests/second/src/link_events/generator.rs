@@ -3,6 +3,7 @@
 
 mod drawn;
 mod late;
+mod short;
 mod unconfirmed;
 
 use super::{Data, Event, Outcome, Start, System};
@@ -12,6 +13,9 @@ use crate::dock::{LEAST_IDENTITY, MOST_IDENTITY, MOST_SVIDS};
 use crate::laptop::Candidate;
 use crate::pages::PAGE_SVIDS;
 use crate::random::Random;
+use short::Sort;
+
+pub use short::STREAMS;
 
 const LENGTHS: u64 = MOST_SVIDS as u64 + 1;
 
@@ -25,22 +29,38 @@ struct Generator {
 /// The start and all events of a seed. Seeds in a row have lists of every length, each a SVID
 /// shorter than the last.
 pub fn generate(seed: u64) -> (Start, Vec<Event>) {
-    let mut random = Random::from_seed(seed);
-    let start = Start {
-        data: drawn_data(&mut random, MOST_SVIDS - (seed % LENGTHS) as usize),
-        page: random.byte() % 9,
-        holds_old: random.below(2) == 1,
-    };
-    let mut generator = Generator {
-        random,
-        system: System::begin(&start),
-        events: Vec::new(),
-    };
+    let length = MOST_SVIDS - (seed % LENGTHS) as usize;
+    let (start, mut generator) = begin(Random::from_seed(seed), length);
     generator.late();
     generator.gather();
     generator.unconfirmed();
     generator.drawn();
     (start, generator.events)
+}
+
+/// The stored stream of that number, which is its seed: a long one first, and then short ones.
+pub fn stored_stream(number: u64) -> (Start, Vec<Event>) {
+    if number <= 1 {
+        return generate(number);
+    }
+    let sort = Sort::of(number - 2);
+    let (start, mut generator) = begin(Random::from_small_seed(number), sort.length());
+    generator.short(sort);
+    (start, generator.events)
+}
+
+fn begin(mut random: Random, length: usize) -> (Start, Generator) {
+    let start = Start {
+        data: drawn_data(&mut random, length),
+        page: random.byte() % 9,
+        holds_old: random.below(2) == 1,
+    };
+    let generator = Generator {
+        random,
+        system: System::begin(&start),
+        events: Vec::new(),
+    };
+    (start, generator)
 }
 
 fn drawn_data(random: &mut Random, length: usize) -> Data {

@@ -10,6 +10,6 @@ mod start;
 mod system;
 pub mod tally;
 
-pub use event::Event;
+pub use event::{put_streams, Event, Item};
 pub use start::{BadData, Data, Start};
 pub use system::{Outcome, System};

@@ -27,6 +27,12 @@ impl From<Stop> for BadData {
     }
 }
 
+impl From<BadData> for Stop {
+    fn from(_: BadData) -> Self {
+        Stop::BadDockData
+    }
+}
+
 #[derive(Clone, Debug, PartialEq, Eq)]
 pub struct Start {
     pub data: Data,

@@ -1,11 +1,12 @@
-//! Counts what a stream of link events reaches, and tells what it never reaches.
+//! Counts what streams of link events reach, and tells what they never reach.
 
 use super::checks::{Demand, Observed};
-use super::{Event, Start, System};
-use crate::pages::PAGE_SVIDS;
+use super::{Event, Outcome, Start, System};
+use crate::call::Call;
+use crate::counts::Counts;
+use crate::messages::{read, BUSY};
+use crate::pages::{MOST_SVIDS, PAGE_SVIDS};
 use crate::refusals::{ACCEPTED, AWAITING, BLOCKED, NOT_AWAITED, NOT_HELD, NOT_TAKEN_NOW, NO_END};
-use std::collections::BTreeMap;
-use std::fmt;
 
 /// Every refusal that the ends give over the link; 14 needs a page before the last.
 const REFUSALS: [u8; 7] = [
@@ -17,87 +18,144 @@ const REFUSALS: [u8; 7] = [
     BLOCKED,
     NO_END,
 ];
-const LATE_ANSWER_TAKEN: &str = "a late answer taken for a newer request";
-const UNCONFIRMED: &str = "a gathering with confirmations lost";
-const PUBLISHED: &str = "a catalogue published";
+const STREAMS: &str = "streams";
+const COMPLETED: &str = "gatherings completed";
+const UNCONFIRMED: &str = "gatherings completed with confirmations lost";
+const LOST_CONFIRMATION: &str = "confirmation lost";
+const LATE_ALONE: &str = "late answer with nothing awaited";
+const LATE_TAKEN: &str = "late answer taken for a newer request";
+const BUSY_TAKEN: &str = "BUSY taken";
+const SENT_FIRST: &str = "sent heard before the answer arrives";
+const FAILED_FIRST: &str = "failed heard before the answer arrives";
+const ENTER_SENT: &str = "enter sent";
+const EXIT_SENT: &str = "exit sent";
 
+#[derive(Default)]
 pub struct Tally {
-    system: System,
-    demand: Demand,
-    counts: BTreeMap<String, usize>,
+    counts: Counts,
 }
 
 impl Tally {
-    pub fn new(start: &Start) -> Self {
-        let system = System::begin(start);
-        Tally {
-            demand: Demand::of(&system),
-            system,
-            counts: BTreeMap::new(),
+    /// Counts a stream, or tells how an event of it breaks the demand.
+    pub fn count_stream(&mut self, start: &Start, events: &[Event]) -> Result<(), &'static str> {
+        let mut system = System::begin(start);
+        let mut demand = Demand::of(&system);
+        self.add(STREAMS);
+        for event in events {
+            let before = system.clone();
+            let outcome = system.take(event);
+            let [was, now] = [&before, &system].map(Observed::of);
+            self.counts.add(permission(event, outcome.permitted));
+            if let Some(number) = outcome.refusal {
+                self.counts.add(refusal(number));
+            }
+            if now.confirmations_lost > was.confirmations_lost {
+                self.add(LOST_CONFIRMATION);
+            }
+            match event {
+                Event::AnswerArrives => self.count_arrival(&before, outcome, &now),
+                _ => self.count_other(event, outcome, &was),
+            }
+            demand.check(event, outcome, now)?;
         }
+        Ok(())
     }
 
-    /// Counts the event, or tells how it breaks the demand.
-    pub fn count(&mut self, event: &Event) -> Result<(), &'static str> {
-        let before = Observed::of(&self.system);
-        let had_request = self.system.link().has_request();
-        let outcome = self.system.take(event);
-        let now = Observed::of(&self.system);
-        self.add(permission(event, outcome.permitted));
-        if let Some(number) = outcome.refusal {
-            self.add(refusal(number));
+    /// The link is quiet before the first request, so what arrives with nothing awaited, or while a
+    /// request is still under way, is late.
+    fn count_arrival(&mut self, system: &System, outcome: Outcome, now: &Observed) {
+        let before = Observed::of(system);
+        if outcome.refusal == Some(NOT_AWAITED) && before.awaited.is_none() {
+            self.add(LATE_ALONE);
         }
-        let is_taken = *event == Event::AnswerArrives && outcome.refusal == Some(ACCEPTED);
-        if is_taken && had_request {
-            self.add(LATE_ANSWER_TAKEN.to_string());
+        if outcome.refusal != Some(ACCEPTED) {
+            return;
         }
-        if is_taken && before.needs_only_this_answer() {
-            self.add(PUBLISHED.to_string());
+        if system.link().has_request() {
+            self.add(LATE_TAKEN);
+        }
+        let answer = before.answer.as_deref().and_then(|bytes| read(bytes).ok());
+        if answer.is_some_and(|message| message.kind == BUSY) {
+            self.add(BUSY_TAKEN);
+        }
+        if before.needs_only_this_answer() {
+            self.add(COMPLETED);
+            self.counts.add(completed(system.data().svids.len()));
             if now.confirmations_lost > 0 {
-                self.add(UNCONFIRMED.to_string());
+                self.add(UNCONFIRMED);
             }
         }
-        self.demand.check(event, outcome, now)
     }
 
-    fn add(&mut self, name: String) {
-        *self.counts.entry(name).or_default() += 1;
+    fn count_other(&mut self, event: &Event, outcome: Outcome, before: &Observed) {
+        let is_first = outcome.permitted && before.answer.is_some();
+        let is_accepted = outcome.refusal == Some(ACCEPTED);
+        match event {
+            Event::Sent if is_first => self.add(SENT_FIRST),
+            Event::Failed if is_first => self.add(FAILED_FIRST),
+            Event::Call(Call::Enter { .. }) if is_accepted => self.add(ENTER_SENT),
+            Event::Call(Call::Exit { .. }) if is_accepted => self.add(EXIT_SENT),
+            _ => {}
+        }
     }
 
-    /// A line for each refusal, permission and sort of gathering that never occurred.
-    pub fn missing(&self) -> Vec<String> {
-        let has_page_before_last = self.system.data().svids.len() >= PAGE_SVIDS;
-        let refusals = REFUSALS
-            .into_iter()
-            .filter(|&number| number != NO_END || has_page_before_last)
-            .map(refusal);
-        let permissions = Event::BESIDE_CALLS
-            .iter()
-            .flat_map(|event| [true, false].map(|permitted| permission(event, permitted)));
-        let gatherings = [LATE_ANSWER_TAKEN, PUBLISHED].map(str::to_string);
-        let unconfirmed = has_page_before_last.then(|| UNCONFIRMED.to_string());
-        let names = refusals.chain(permissions).chain(gatherings);
-        names
-            .chain(unconfirmed)
-            .filter(|name| !self.counts.contains_key(name))
-            .map(|name| format!("{name} never occurred"))
-            .collect()
+    fn add(&mut self, name: &str) {
+        self.counts.add(name.to_string());
+    }
+
+    /// A line for each of the names that never occurred.
+    pub fn missing(&self, names: &[String]) -> Vec<String> {
+        self.counts.missing(names)
+    }
+
+    pub fn table(&self) -> String {
+        self.counts.table(&all())
     }
 }
 
-impl fmt::Display for Tally {
-    fn fmt(&self, formatter: &mut fmt::Formatter) -> fmt::Result {
-        let rows: Vec<String> = self
-            .counts
-            .iter()
-            .map(|(name, count)| format!("{name}: {count}"))
-            .collect();
-        write!(formatter, "{}", rows.join("\n"))
-    }
+/// What one long stream reaches whose list has so many SVIDs. Not each of them sends an enter.
+pub fn of_one_stream(length: usize) -> Vec<String> {
+    let has_page_before_last = length >= PAGE_SVIDS;
+    let needs_page = [&refusal(NO_END), UNCONFIRMED, LOST_CONFIRMATION].map(str::to_string);
+    let modes = [ENTER_SENT, EXIT_SENT].map(str::to_string);
+    let lengths = (0..=MOST_SVIDS).map(completed);
+    let of_many: Vec<String> = modes.into_iter().chain(lengths).collect();
+    all()
+        .into_iter()
+        .filter(|name| has_page_before_last || !needs_page.contains(name))
+        .filter(|name| !of_many.contains(name))
+        .collect()
+}
+
+/// Each refusal, permission, sort of event and gathering.
+pub fn all() -> Vec<String> {
+    let single = [
+        STREAMS,
+        COMPLETED,
+        UNCONFIRMED,
+        LOST_CONFIRMATION,
+        LATE_ALONE,
+        LATE_TAKEN,
+        BUSY_TAKEN,
+        SENT_FIRST,
+        FAILED_FIRST,
+        ENTER_SENT,
+        EXIT_SENT,
+    ];
+    let permissions = Event::BESIDE_CALLS
+        .iter()
+        .flat_map(|event| [true, false].map(|permitted| permission(event, permitted)));
+    let single = single.map(str::to_string).into_iter();
+    let names = single.chain(REFUSALS.map(refusal)).chain(permissions);
+    names.chain((0..=MOST_SVIDS).map(completed)).collect()
 }
 
 fn refusal(number: u8) -> String {
     format!("refusal {number}")
+}
+
+fn completed(length: usize) -> String {
+    format!("gathering of {length} completed")
 }
 
 fn permission(event: &Event, permitted: bool) -> String {

@@ -7,6 +7,7 @@ mod drawn;
 mod lists;
 mod messages;
 mod modes;
+mod short;
 mod situation;
 mod two_hundred;
 mod unheld;
@@ -36,16 +37,7 @@ struct Generator {
 /// All events of a seed, in the order of the stream. Nothing takes a held catalogue away, so the
 /// sequences that need none come before the cases.
 pub fn generate(seed: u64) -> Vec<Event> {
-    let mut generator = Generator {
-        random: Random::from_seed(seed),
-        run: Run::default(),
-        asked: Request {
-            svid: PD_SID,
-            command: IDENTITY,
-            position: 0,
-        },
-        events: Vec::new(),
-    };
+    let mut generator = Generator::of(Random::from_seed(seed));
     generator.unheld();
     generator.cases();
     generator.lists();
@@ -60,7 +52,27 @@ pub fn generate(seed: u64) -> Vec<Event> {
     generator.events
 }
 
+/// The events of a short stream: each number from 0 up has its sort and, as its seed, its draws.
+pub fn generate_short(number: u64) -> Vec<Event> {
+    let mut generator = Generator::of(Random::from_small_seed(number));
+    generator.short(number);
+    generator.events
+}
+
 impl Generator {
+    fn of(random: Random) -> Self {
+        Generator {
+            random,
+            run: Run::default(),
+            asked: Request {
+                svid: PD_SID,
+                command: IDENTITY,
+                position: 0,
+            },
+            events: Vec::new(),
+        }
+    }
+
     fn push(&mut self, event: impl Into<Event>) -> Outcome {
         let event = event.into();
         let outcome = self.run.take(&event);

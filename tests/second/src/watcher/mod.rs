@@ -2,6 +2,7 @@
 //! stream, making and counting.
 
 pub mod answers;
+pub mod edges;
 mod event;
 pub mod generator;
 mod run;

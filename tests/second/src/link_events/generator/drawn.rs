@@ -8,22 +8,26 @@ use crate::refusals::BLOCKED;
 const JOURNEYS: usize = 40;
 const STEPS: usize = 80;
 /// One step in so many is trouble.
-const TROUBLES: [usize; 5] = [2, 4, 10, 30, 100];
+pub const TROUBLES: [usize; 5] = [2, 4, 10, 30, 100];
 
 impl Generator {
     pub(super) fn drawn(&mut self) {
         for _ in 0..JOURNEYS {
             let trouble = self.random.one_of(&TROUBLES);
-            for _ in 0..STEPS {
-                match self.random.below(trouble) {
-                    0 => self.trouble(),
-                    _ => self.go_on(),
-                }
-            }
+            self.steps(STEPS, trouble);
         }
         self.finish();
         self.leave_all_modes();
         self.gather();
+    }
+
+    pub(super) fn steps(&mut self, count: usize, trouble: usize) {
+        for _ in 0..count {
+            match self.random.below(trouble) {
+                0 => self.trouble(),
+                _ => self.go_on(),
+            }
+        }
     }
 
     fn go_on(&mut self) {
@@ -76,7 +80,7 @@ impl Generator {
     }
 
     /// Enter or exit, mostly of a held SVID.
-    fn drawn_mode(&mut self) {
+    pub(super) fn drawn_mode(&mut self) {
         let mut svids = self.held_svids();
         if svids.is_empty() || self.random.is_rare() {
             svids.push(self.random.svid());
@@ -89,7 +93,7 @@ impl Generator {
         self.push(Event::Call(call));
     }
 
-    fn leave_all_modes(&mut self) {
+    pub(super) fn leave_all_modes(&mut self) {
         for svid in self.held_svids() {
             if self.system.laptop().entered_count(svid) > 0 {
                 let position = LAST_POSITION;
@@ -99,7 +103,7 @@ impl Generator {
         }
     }
 
-    fn held_svids(&self) -> Vec<u16> {
+    pub(super) fn held_svids(&self) -> Vec<u16> {
         let held = self.system.laptop().held();
         held.map(|held| held.svids.clone()).unwrap_or_default()
     }

@@ -4,7 +4,7 @@ use super::{Event, Generator};
 use crate::call::Call;
 
 /// What the dock hears of an answer that is still under way.
-const HEARD: [Option<Event>; 3] = [None, Some(Event::Sent), Some(Event::Failed)];
+pub const HEARD: [Option<Event>; 3] = [None, Some(Event::Sent), Some(Event::Failed)];
 
 impl Generator {
     pub(super) fn late(&mut self) {
@@ -31,7 +31,7 @@ impl Generator {
         self.push(Event::Timer);
     }
 
-    fn late_with_nothing_awaited(&mut self, exchanges: usize, heard: Option<Event>) {
+    pub(super) fn late_with_nothing_awaited(&mut self, exchanges: usize, heard: Option<Event>) {
         self.end_wait(exchanges, heard);
         self.push(Event::AnswerArrives);
         self.push(Event::Failed);
@@ -39,7 +39,7 @@ impl Generator {
     }
 
     /// The late answer is taken, and the newer request is lost.
-    fn late_with_newer_request(&mut self, exchanges: usize, heard: Option<Event>) {
+    pub(super) fn late_with_newer_request(&mut self, exchanges: usize, heard: Option<Event>) {
         self.end_wait(exchanges, heard);
         self.next();
         self.push(Event::AnswerArrives);
@@ -50,7 +50,7 @@ impl Generator {
 
     /// The newer request reaches the dock before the late answer, which then never arrives; a
     /// confirmed one comes first all the same.
-    fn newer_request_first(&mut self, exchanges: usize, heard: Option<Event>) {
+    pub(super) fn newer_request_first(&mut self, exchanges: usize, heard: Option<Event>) {
         self.end_wait(exchanges, heard);
         self.next();
         self.push(Event::RequestReaches);

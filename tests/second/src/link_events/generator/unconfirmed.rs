@@ -48,7 +48,7 @@ impl Generator {
     }
 
     /// The first page comes until so many are counted, unless it is the last; none is confirmed.
-    fn until(&mut self, pages: usize) {
+    pub(super) fn until(&mut self, pages: usize) {
         self.open();
         while self.list_is_open()
             && !self.last_page_is_shown()
@@ -59,7 +59,7 @@ impl Generator {
         self.push(Event::Failed);
     }
 
-    fn page_unconfirmed(&mut self) {
+    pub(super) fn page_unconfirmed(&mut self) {
         self.answer();
         let way = self.random.one_of(&WAYS);
         for event in way.into_iter().flatten() {
@@ -67,7 +67,7 @@ impl Generator {
         }
     }
 
-    fn list_is_open(&self) -> bool {
+    pub(super) fn list_is_open(&self) -> bool {
         matches!(self.system.laptop().candidate(), Candidate::ListOpen(_))
     }
 }

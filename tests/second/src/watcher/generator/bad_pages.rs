@@ -27,7 +27,7 @@ impl Generator {
         }
     }
 
-    fn page_with_zeros(&mut self, pages: usize, halves: usize, zeros: Range<usize>) {
+    pub(super) fn page_with_zeros(&mut self, pages: usize, halves: usize, zeros: Range<usize>) {
         let svids = self.random.different_svids(pages * PAGE_SVIDS + halves);
         let (gathered, rest) = svids.split_at(pages * PAGE_SVIDS);
         let mut rest = rest.to_vec();
@@ -76,7 +76,7 @@ impl Generator {
     }
 }
 
-fn objects(halves: &[u16]) -> Vec<u32> {
+pub fn objects(halves: &[u16]) -> Vec<u32> {
     halves
         .chunks(2)
         .map(|pair| u32::from(pair[0]) << u16::BITS | u32::from(pair[1]))

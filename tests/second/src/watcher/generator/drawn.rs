@@ -12,19 +12,23 @@ const STEPS: usize = 2600;
 impl Generator {
     pub(super) fn drawn(&mut self) {
         for _ in 0..STEPS {
-            match self.random.below(100) {
-                0..70 => self.go_on(),
-                70..78 => self.drawn_answer(),
-                78..84 => self.drawn_timer(),
-                84..92 => self.drawn_mode(),
-                92..95 => self.drawn_asking(),
-                _ => self.drawn_words(),
-            }
+            self.drawn_step();
+        }
+    }
+
+    pub(super) fn drawn_step(&mut self) {
+        match self.random.below(100) {
+            0..70 => self.go_on(),
+            70..78 => self.drawn_answer(),
+            78..84 => self.drawn_timer(),
+            84..92 => self.drawn_mode(),
+            92..95 => self.drawn_asking(),
+            _ => self.drawn_words(),
         }
     }
 
     /// The next event of an exchange.
-    fn go_on(&mut self) {
+    pub(super) fn go_on(&mut self) {
         if self.run.laptop().awaited().is_none() {
             self.drawn_call();
         } else if self.asked.command == SVIDS {
@@ -69,13 +73,13 @@ impl Generator {
         self.answer_well(kind);
     }
 
-    fn drawn_timer(&mut self) {
+    pub(super) fn drawn_timer(&mut self) {
         let timer = self.random.one_of(&TIMERS);
         self.push(timer);
     }
 
     /// Enter or exit, mostly of a held SVID.
-    fn drawn_mode(&mut self) {
+    pub(super) fn drawn_mode(&mut self) {
         let mut svids = self.held_svids();
         if svids.is_empty() || self.random.is_rare() {
             svids.push(self.random.svid());

@@ -8,23 +8,27 @@ use crate::pages::{page, MOST_SVIDS, PAGE_SVIDS};
 impl Generator {
     pub(super) fn lists(&mut self) {
         for length in 0..=MOST_SVIDS {
-            let svids = self.random.different_svids(length);
-            self.open();
-            self.hinder();
-            if svids.is_empty() {
-                self.next();
-                self.answer_well(NAK);
-            }
-            for number in 0..page_count(length) {
-                self.hinder();
-                self.page(&page(&svids, number).objects);
-                let ends_list = number == length / PAGE_SVIDS;
-                if !ends_list && self.random.below(2) == 0 {
-                    self.page(&page(&svids, number).objects);
-                }
-            }
-            self.modes_of_list(length);
+            self.whole_list(length);
         }
+    }
+
+    pub(super) fn whole_list(&mut self, length: usize) {
+        let svids = self.random.different_svids(length);
+        self.open();
+        self.hinder();
+        if svids.is_empty() {
+            self.next();
+            self.answer_well(NAK);
+        }
+        for number in 0..page_count(length) {
+            self.hinder();
+            self.page(&page(&svids, number).objects);
+            let ends_list = number == length / PAGE_SVIDS;
+            if !ends_list && self.random.below(2) == 0 {
+                self.page(&page(&svids, number).objects);
+            }
+        }
+        self.modes_of_list(length);
     }
 
     fn modes_of_list(&mut self, length: usize) {

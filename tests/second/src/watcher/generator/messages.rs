@@ -30,7 +30,7 @@ impl Generator {
         }
     }
 
-    fn all_messages(&mut self) -> Vec<Event> {
+    pub(super) fn all_messages(&mut self) -> Vec<Event> {
         let mut messages = Vec::new();
         for (svid, command, position) in NAMED {
             for kind in 0..=LAST_KIND {

@@ -68,14 +68,7 @@ const NAMED_MODES: [(u16, u8); 8] = [
 impl Generator {
     /// Every event but a message, in every situation.
     pub(super) fn calls_everywhere(&mut self) {
-        let modes = NAMED_MODES.iter().flat_map(|&(svid, position)| {
-            [
-                Call::Enter { svid, position },
-                Call::Exit { svid, position },
-            ]
-        });
-        let calls = ASKING.into_iter().chain(TIMERS).chain(modes);
-        let calls: Vec<Event> = calls.map(Event::from).collect();
+        let calls = all_calls();
         for situation in IDLE.into_iter().chain(WAITING) {
             self.everything_in(situation, &calls);
         }
@@ -145,4 +138,16 @@ impl Generator {
         let svid = FIRST;
         self.push(Call::Exit { svid, position });
     }
+}
+
+/// Every event but a message.
+pub fn all_calls() -> Vec<Event> {
+    let modes = NAMED_MODES.iter().flat_map(|&(svid, position)| {
+        [
+            Call::Enter { svid, position },
+            Call::Exit { svid, position },
+        ]
+    });
+    let calls = ASKING.into_iter().chain(TIMERS).chain(modes);
+    calls.map(Event::from).collect()
 }

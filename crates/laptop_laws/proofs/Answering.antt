@@ -2,13 +2,13 @@
 use mathlib.Core.Logic.{inl, inr}
 use mathlib.Core.Path.{_≡_, refl, ap, sym, _∙_, subst}
 use mathlib.Core.Bool.{Bool, true, false, cond, not, _&&_, _||_, false≢true}
-use mathlib.Core.List.{List, [], _∷_, _++_}
-use Prim.Native.Nat.{ℕ, zero, suc, _+_, _*_, _-_, _^_, _<_, _≤_}
+use mathlib.Core.List.{List, [], _++_}
+use Prim.Native.Nat.{ℕ, _+_, _*_, _-_, _^_, _<_, _≤_}
 use native.Mathlib.Omega.{arith}
 use lib.Bits.{bitAnd, bitOr, and-le-l, or-lt}
 use lib.Dec.{leb, ltb, eqb}
-use lib.ListN.{length, getD, take, drop, set, replicate, length-set, length-replicate, length-append, List·getD-eq-default}
-use lib.Seq.{sets, sets-eq, length-sets, take-append-seam, getD-set-same, getD-set-other}
+use lib.ListN.{length, getD, take, set, replicate, length-set, length-replicate, List·getD-eq-default}
+use lib.Seq.{sets, length-sets, getD-set-same, getD-set-other}
 use borrow.Author.Tests.{eqb-true, eqb-false, leb-true, leb-false, ltb-true, ltb-false}
 use Rattle.laws.specs.Padded.{padded}
 use Rattle.laws.proofs.Lines.{and-left, and-right}
@@ -43,6 +43,7 @@ use Rattle.laptop.specs.declared.Step.{Step}
 use Rattle.laptop.specs.declared.Told.the-variants.{Nothing as Told·Nothing}
 use Rattle.laptop.specs.declared.Wait.{Wait}
 use Rattle.laptop.specs.declared.Wait.the-variants.{Nothing, Answer}
+use Rattle.laptop_laws.proofs.Behind.{sets-behind, below}
 use Rattle.laptop_laws.proofs.Copies.{length-copied}
 use Rattle.laptop_laws.proofs.Keeping.{dropped-formed}
 use Rattle.laptop.proofs.Listing.{counted-more}
@@ -51,18 +52,6 @@ use Rattle.laptop.proofs.Marking.{named-most}
 sound-nil : soundList [] ≡ true
 unfolding soundList
 sound-nil = refl
-
-below : (i n : ℕ) → i < n + 1 → (i ≡ n → ⊥) → i < n
-below i n h e = go (ltb i n) refl
-  where
-    go : (t : Bool) → ltb i n ≡ t → i < n
-    go true x = ltb-true i n x
-    go false x = absurd (e (let y = ltb-false i n x in omega arith))
-
-gathered-part : (n : ℕ) (l : List ℕ) → take (length (take n l)) l ≡ take n l
-gathered-part zero l = refl
-gathered-part (suc n) [] = refl
-gathered-part (suc n) (x ∷ l) = ap (λ (r : List ℕ). x ∷ r) (gathered-part n l)
 
 -- a message that fits what is awaited: the wait's own facts, by the message's command
 same-command : (r : Request) (h : Head) → sameRequest r (requestOf h) ≡ true → r .command ≡ h .command
@@ -217,14 +206,7 @@ module _ (l : Laptop) (m : Memory) (w : WellFormed l m) (none : anyEntered (m .e
     taken : (v : List ℕ) → length (gatheredList x (m .svids)) + length v ≤ 72 →
         take (length (gatheredList x (m .svids)) + length v) (sets (m .svids) (length (gatheredList x (m .svids))) v) ≡
         gatheredList x (m .svids) ++ v
-    taken v fit =
-        let g : List ℕ = gatheredList x (m .svids) in
-        let n : ℕ = length g in
-        let first : take n (m .svids) ≡ g = gathered-part (x .gathered .count) (m .svids) in
-        let whole : sets (m .svids) n v ≡ (g ++ v) ++ drop (n + length v) (m .svids) =
-        sets-eq v (m .svids) n (omega (arith, size)) ∙ ap (λ (l : List ℕ). (l ++ v) ++ drop (n + length v) (m .svids)) first in
-        let sizes : length (g ++ v) ≡ n + length v = length-append g v in
-        ap (take (n + length v)) whole ∙ ap (λ (k : ℕ). take k ((g ++ v) ++ drop (n + length v) (m .svids))) (sym sizes) ∙ take-append-seam (g ++ v) _
+    taken v fit = sets-behind (m .svids) (x .gathered .count) v (omega (arith, size))
 
     grown : (c : ℕ) (v : List ℕ) → c ≡ length (gatheredList x (m .svids)) + length v → c ≤ 72 → soundList (gatheredList x (m .svids) ++ v) ≡ true →
         Listed (record { objects = x .gathered .objects; count = c }) 0 (sets (m .svids) (length (gatheredList x (m .svids))) v) (m .modes)

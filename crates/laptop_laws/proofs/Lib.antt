@@ -1,5 +1,6 @@
 -- What the laptop keeps, a file for each topic.
 pub mod Answering
+pub mod Behind
 pub mod Copies
 pub mod Keeping
 pub mod Laws

@@ -1,6 +1,6 @@
 -- An answer that arrives keeps the invariant.
 use mathlib.Core.Logic.{_⊎_, inl, inr}
-use mathlib.Core.Path.{_≡_, refl, ap, ap₂, sym, _∙_, subst}
+use mathlib.Core.Path.{_≡_, refl, ap, sym, _∙_, subst}
 use mathlib.Core.Bool.{Bool, true, false, cond}
 use mathlib.Core.List.{List, []}
 use Prim.Native.Nat.{ℕ, _^_}
@@ -8,7 +8,6 @@ use native.Mathlib.Omega.{arith}
 use Rattle.laws.specs.Bounded.{Below}
 use Rattle.messages.specs.Layout.{messageBytes}
 use Rattle.messages.specs.Reading.{accepted, readOutcome}
-use Rattle.messages.specs.declared.request.Request.{Request}
 use Rattle.pages.proofs.Laws.{page-below}
 use Rattle.dock.specs.Data.{listed}
 use Rattle.dock.specs.declared.Dock.{Dock}
@@ -21,8 +20,7 @@ use Rattle.laptop.specs.declared.Laptop.{Laptop}
 use Rattle.laptop.specs.declared.Wait.{Wait}
 use Rattle.laptop.specs.declared.Wait.the-variants.{Nothing, Answer}
 use Rattle.laptop_laws.specs.Done.{message, done}
-use Rattle.laptop_laws.specs.Holding.{Holding, holding}
-use Rattle.laptop_laws.specs.WellFormed.{WellFormed}
+use Rattle.laptop_laws.specs.Holding.{Holding}
 use Rattle.laptop_laws.proofs.Laws.{keeps}
 use Rattle.link.specs.Demand.{Meets, heldIn, isLastHead}
 use Rattle.link.specs.Joined.{Way, clear}
@@ -31,7 +29,7 @@ use Rattle.link.proofs.Arrival.{Arrival, on-time, confirmed-first}
 use Rattle.link.proofs.AtDock.{Inv, reached, page-given}
 use Rattle.link.proofs.Bytes.{reads}
 use Rattle.link.proofs.Course.{FairAnswer, identityAck, pageAck, modesAck, modeAck, listNak, busyTo, Carried, nothing, underWay, sure, arrived, arrivedAs, lostAs}
-use Rattle.link.proofs.Invariant.{WayFits, dockAt, messageOf, fateOf, Gives, Gave, Shaped, FateFits, HeldIs, Invariant, systemOf, Reached}
+use Rattle.link.proofs.Invariant.{WayFits, dockAt, messageOf, fateOf, Gives, Gave, Shaped, FateFits, HeldIs, systemOf, Reached}
 use Rattle.link.proofs.Landing.{Lands, lands}
 
 module _ (modesOf : ℕ → List ℕ) (d : Dock) (meets : Meets modesOf d) where

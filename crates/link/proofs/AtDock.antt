@@ -3,17 +3,15 @@ use mathlib.Core.Logic.{_⊎_, inl, inr}
 use mathlib.Core.Path.{_≡_, refl, ap, ap₂, sym, _∙_, subst}
 use mathlib.Core.Bool.{Bool, true, false, cond, not, _&&_, false≢true}
 use mathlib.Core.List.{List, [], _∷_}
-use Prim.Native.Nat.{ℕ, zero, suc, _+_, _/_, _<_, _≤_}
+use Prim.Native.Nat.{ℕ, _+_, _/_, _<_, _≤_}
 use native.Mathlib.Omega.{arith}
-use lib.Dec.{leb, ltb, eqb}
+use lib.Dec.{leb, eqb}
 use lib.ListN.{length, getD, take}
 use borrow.Author.Tests.{eq-eqb, ne-eqb, eqb-true, le-leb}
 use Rattle.laws.proofs.Lines.{and-left, and-right}
-use Rattle.messages.specs.Layout.{Message, messageBytes}
 use Rattle.messages.specs.Reading.{accepted, readOutcome}
 use Rattle.messages.specs.Requests.{svidsCommand, modesCommand, sameRequest}
 use Rattle.messages.specs.Table.{pdSid, oneToFive}
-use Rattle.messages.specs.Writing.{wellShaped}
 use Rattle.messages.specs.declared.request.Request.{Request}
 use Rattle.pages.specs.Pages.{isLast}
 use Rattle.dock.specs.Data.{listed, goodIdentity, withPage, withStanding}
@@ -33,11 +31,11 @@ use Rattle.laptop.specs.declared.Wait.{Wait}
 use Rattle.laptop.specs.declared.Wait.the-variants.{Answer}
 use Rattle.laptop_laws.specs.Holding.{Holding}
 use Rattle.laptop_laws.specs.WellFormed.{WaitFits}
-use Rattle.link.specs.Joined.{Way, clear, request, Fate, gone, coming, System}
+use Rattle.link.specs.Joined.{Way, clear, request, Fate, gone, System}
 use Rattle.link.specs.Link.{handedOver, lostWith, reachedBy, reaches, isFair, brought, answeredBy, answers, hearsSent, fateOnFailure, hearsFailed, losesRequest, losesAnswer}
 use Rattle.link.proofs.Bytes.{reads, HandsOver, hands-over}
 use Rattle.link.proofs.Course.{FairAnswer, identityAck, pageAck, modesAck, modeAck, listNak, busyTo, isPage, Carried, nothing, underWay, sure, arrived, lostThen, Quiet, NoSurePage, settled-lost, quiet-settled, movesOn, moves-other, Course, replaced, passes, answered, confirmed-after, confirmed-before}
-use Rattle.link.proofs.Invariant.{Out, WayFits, Known, known-identity, known-svids, known-modes, known-mode, AsksFit, dockAt, messageOf, fateOf, Gives, Gave, Shaped, FateFits, Complete, CandidateIs, Invariant, systemOf, Reached}
+use Rattle.link.proofs.Invariant.{Out, WayFits, Known, known-identity, known-svids, known-modes, known-mode, AsksFit, dockAt, messageOf, fateOf, Gives, Gave, FateFits, Complete, CandidateIs, Invariant, systemOf, Reached}
 
 -- a request of Identity to Exit that reaches the dock is never refused: it asks policy
 one-to-five : (n : ℕ) → 1 ≤ n → n ≤ 5 → oneToFive n ≡ true
@@ -62,10 +60,6 @@ module _ (modesOf : ℕ → List ℕ) (d : Dock) where
           withStanding (Asking r) (cond b (withPage 0 (dockAt modesOf d q t)) (dockAt modesOf d q t)) ≡ dockAt modesOf d (cond b 0 q) (Asking r)
       go true = refl
       go false = refl
-
-  sending-at : (b : Bool) (q : ℕ) (t : Standing) → sending b (dockAt modesOf d q t) ≡ dockAt modesOf d q (Sending b)
-  unfolding sending
-  sending-at b q t = refl
 
   moved-at : (b : Bool) (q : ℕ) (t : Standing) → moved b (dockAt modesOf d q t) ≡ dockAt modesOf d (movesOn (listed d) b q) Ready
   unfolding moved movesOn

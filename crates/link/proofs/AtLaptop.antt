@@ -1,9 +1,9 @@
 -- Owner's calls, timers and the protocol error keep the invariant.
 use mathlib.Core.Logic.{_⊎_, inl, inr}
 use mathlib.Core.Path.{_≡_, refl, ap, sym, _∙_, subst}
-use mathlib.Core.Bool.{Bool, true, false, cond, not, _&&_, false≢true}
-use mathlib.Core.List.{List, [], _∷_}
-use Prim.Native.Nat.{ℕ, _<_, _≤_}
+use mathlib.Core.Bool.{Bool, true, false, cond, _&&_}
+use mathlib.Core.List.{List}
+use Prim.Native.Nat.{ℕ, _≤_}
 use native.Mathlib.Omega.{arith}
 use lib.Dec.{leb, ltb, eqb}
 use lib.ListN.{length, getD}
@@ -11,11 +11,10 @@ use borrow.Author.Tests.{eqb-true}
 use Rattle.messages.specs.Layout.{messageBytes}
 use Rattle.messages.specs.Requests.{svidsCommand, modesCommand, enterCommand, exitCommand}
 use Rattle.messages.specs.Table.{pdSid}
-use Rattle.messages.specs.Writing.{wellShaped}
 use Rattle.messages.specs.declared.request.Request.{Request}
 use Rattle.dock.specs.declared.Dock.{Dock}
 use Rattle.dock.specs.declared.Standing.{Standing}
-use Rattle.laptop.specs.Calls.{Decision, refuses, turns, sends, stepOf, bufferOf, unless, isAwaiting}
+use Rattle.laptop.specs.Calls.{Decision, refuses, turns, sends, stepOf, unless, isAwaiting}
 use Rattle.laptop.specs.Owner.{discover, requestMessage, asksNext, decideNext, decideStartOver, decideDrop, decideEnter, decideExit}
 use Rattle.laptop.specs.State.{Memory, ended, dropped, awaiting, identityRequest, identityAsked}
 use Rattle.laptop.specs.Timers.{over, decideTimer, decideError}
@@ -26,7 +25,7 @@ use Rattle.laptop.specs.declared.Told.{Told}
 use Rattle.laptop.specs.declared.Told.the-variants.{Timer, ProtocolError}
 use Rattle.laptop.specs.declared.Wait.{Wait}
 use Rattle.laptop.specs.declared.Wait.the-variants.{Nothing, Answer}
-use Rattle.laptop_laws.specs.Done.{Call, message, next, startOver, drop, enter, exit, timer, protocolError, decided, done}
+use Rattle.laptop_laws.specs.Done.{Call, message, next, startOver, drop, enter, exit, timer, protocolError, decided}
 use Rattle.laptop_laws.specs.Holding.{Holding, holding}
 use Rattle.laptop_laws.specs.WellFormed.{WaitFits, WellFormed}
 use Rattle.laptop_laws.proofs.Laws.{keeps}
@@ -36,7 +35,7 @@ use Rattle.link.specs.Link.{wayAfter, called}
 use Rattle.link.proofs.AtDock.{Inv, reached}
 use Rattle.link.proofs.Bytes.{SendsOut, sends-out}
 use Rattle.link.proofs.Course.{Carried}
-use Rattle.link.proofs.Invariant.{Out, WayFits, dockAt, fateOf, CandidateIs, HeldIs, Invariant, systemOf, Reached}
+use Rattle.link.proofs.Invariant.{WayFits, dockAt, fateOf, CandidateIs, HeldIs, systemOf, Reached}
 
 -- what a call at the laptop decides. Only drop and start over give a candidate up
 pub data Decides (l : Laptop) (c : Call) (x : Decision) : Type 0 where

@@ -1,12 +1,12 @@
 -- Messages on the link are bytes: what one end hands over, the other reads.
 use mathlib.Core.Logic.{_⊎_, inl, inr}
-use mathlib.Core.Path.{_≡_, refl, ap, sym, _∙_}
-use mathlib.Core.Bool.{Bool, true, false, cond, _&&_}
-use mathlib.Core.List.{List, _++_}
+use mathlib.Core.Path.{_≡_, refl, ap}
+use mathlib.Core.Bool.{Bool, true, false}
+use mathlib.Core.List.{List}
 use Prim.Native.Nat.{ℕ, _+_, _^_, _<_, _≤_}
 use native.Mathlib.Omega.{arith}
 use lib.Dec.{leb, ltb, eqb}
-use lib.ListN.{length, getD, take, drop, replicate}
+use lib.ListN.{length, take, drop, replicate}
 use lib.Seq.{take-append-seam}
 use borrow.Author.Tests.{eqb-true, leb-true, ltb-true, lt-ltb}
 use Rattle.laws.specs.Bounded.{Below}
@@ -21,12 +21,10 @@ use Rattle.messages.specs.declared.Head.{Head}
 use Rattle.messages.proofs.Laws.{write-accepted}
 use Rattle.messages.proofs.RoundTrip.{read-bytes}
 use Rattle.messages.proofs.Stores.{length-message}
-use Rattle.dock.specs.Dock.{Decision, sends, refusedBy, acceptedBy, stepOf, bufferOf}
+use Rattle.dock.specs.Dock.{sends, stepOf, bufferOf}
 use Rattle.dock.specs.declared.Dock.{Dock}
 use Rattle.laptop.specs.Calls.{isAwaiting}
 use Rattle.laptop.specs.Calls.{sends as Laptop·sends}
-use Rattle.laptop.specs.Calls.{refusedBy as Laptop·refusedBy}
-use Rattle.laptop.specs.Calls.{sentBy}
 use Rattle.laptop.specs.Calls.{stepOf as Laptop·stepOf}
 use Rattle.laptop.specs.Calls.{bufferOf as Laptop·bufferOf}
 use Rattle.laptop.specs.State.{Memory}

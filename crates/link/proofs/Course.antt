@@ -2,26 +2,23 @@
 use mathlib.Core.Logic.{_⊎_, inl, inr}
 use mathlib.Core.Path.{_≡_, refl, ap, sym, _∙_, subst}
 use mathlib.Core.Bool.{Bool, true, false, cond, not, _&&_, false≢true}
-use mathlib.Core.List.{List, [], _∷_, _++_}
-use Prim.Native.Nat.{ℕ, zero, suc, _+_, _*_, _-_, _/_, _^_, _<_, _≤_}
+use mathlib.Core.List.{List, _++_}
+use Prim.Native.Nat.{ℕ, _+_, _*_, _-_, _/_, _^_, _<_, _≤_}
 use native.Mathlib.Omega.{arith}
-use lib.Dec.{ltb}
 use lib.ListN.{length, take, length-append, length-drop}
 use lib.Seq.{length-take-le}
-use borrow.Author.Tests.{ltb-true, ltb-false, lt-ltb, le-ltb}
+use borrow.Author.Tests.{ltb-true, ltb-false, le-ltb}
 use Rattle.laws.specs.Bounded.{Below}
 use Rattle.messages.specs.declared.request.Request.{Request}
 use Rattle.pages.specs.Lists.{soundList}
 use Rattle.pages.specs.Pages.{halves, page, isLast, remaining, readOff}
 use Rattle.pages.specs.Taking.{before, verdict}
-use Rattle.pages.specs.declared.taking.Verdict.{Verdict}
-use Rattle.pages.specs.declared.taking.Verdict.the-variants.{Bad, Repeat, More, Ends}
+use Rattle.pages.specs.declared.taking.Verdict.the-variants.{Repeat, More, Ends}
 use Rattle.pages.proofs.Gathering.{repeat-again, take-more, take-last}
 use Rattle.pages.proofs.Judging.{take-before}
 use Rattle.pages.proofs.Sizes.{more-fits}
 use Rattle.dock.specs.declared.Standing.{Standing}
 use Rattle.dock.specs.declared.Standing.the-variants.{Ready, Asking, Sending}
-use Rattle.link.specs.Joined.{Fate, gone, coming, confirmed, came}
 
 -- the answers of the fair dock
 pub data FairAnswer : Type 0 where
@@ -127,10 +124,6 @@ module _ (list : List ℕ) where
   last-not : (p : ℕ) → isLast list p ≡ false → 0 < length list → p * 12 + 12 ≤ length list
   unfolding isLast
   last-not p e h = omega (arith, length-drop (p * 12) list, ltb-false (length (remaining list p)) 12 e)
-
-  pub moves-last : (p : ℕ) → isLast list p ≡ true → movesOn true p ≡ p
-  unfolding movesOn
-  moves-last p e = rw e
 
   pub moves-more : (p : ℕ) → isLast list p ≡ false → movesOn true p ≡ p + 1
   unfolding movesOn

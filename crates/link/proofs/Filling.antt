@@ -1,13 +1,13 @@
 -- Modes that come are stored at their SVID's words, and the others stay; when all have come, the catalogue is the dock's.
-use mathlib.Core.Path.{_≡_, refl, ap, ap₂, sym, _∙_, subst}
+use mathlib.Core.Path.{_≡_, refl, ap, ap₂, sym, _∙_}
 use mathlib.Core.Bool.{Bool, true, false, cond}
 use mathlib.Core.List.{List, [], _∷_, _++_, append-assoc}
-use Prim.Native.Nat.{ℕ, zero, suc, _+_, _*_, _<_, _≤_}
+use Prim.Native.Nat.{ℕ, suc, _+_, _*_, _<_, _≤_}
 use native.Mathlib.Omega.{arith}
-use lib.Dec.{leb, ltb, eqb}
-use lib.ListN.{length, getD, take, drop, set, length-drop, length-append}
-use lib.Seq.{sets, sets-eq, length-sets, take-at, drop-at, getD-take, getD-drop, getD-set-same, getD-set-other, ext-getD, length-take-le, drop-drop, take-take}
-use borrow.Author.Tests.{le-leb, ltb-true, ltb-false, leb-true, leb-false}
+use lib.Dec.{leb}
+use lib.ListN.{length, getD, take, drop, set, length-drop}
+use lib.Seq.{sets, sets-eq, length-sets, take-at, drop-at, getD-take, getD-drop, getD-set-same, getD-set-other, ext-getD, length-take-le}
+use borrow.Author.Tests.{le-leb, leb-true}
 use Rattle.laptop.specs.Catalogue.{Entry, modesNumber, modesAt, entriesFrom}
 use Rattle.link.specs.Demand.{entriesOf}
 
@@ -15,20 +15,6 @@ use Rattle.link.specs.Demand.{entriesOf}
 sets-before : (l : List ℕ) (i : ℕ) (vs : List ℕ) (j : ℕ) → j < i → getD (sets l i vs) j 0 ≡ getD l j 0
 sets-before l i [] j h = refl
 sets-before l i (a ∷ vs) j h = sets-before (set l i a) (suc i) vs j (omega arith) ∙ getD-set-other l i j a 0 (λ e. omega arith)
-
--- values stored behind the first of a list
-pub sets-behind : (l : List ℕ) (n : ℕ) (vs : List ℕ) → length (take n l) + length vs ≤ length l →
-    take (length (take n l) + length vs) (sets l (length (take n l)) vs) ≡ take n l ++ vs
-sets-behind l n vs h =
-    let g : List ℕ = take n l in
-    let first : take (length g) l ≡ g = part n l in
-    ap (take (length g + length vs)) (sets-eq vs l (length g) h ∙ ap (λ (x : List ℕ). x ++ vs ++ drop (length g + length vs) l) first) ∙
-    take-at (g ++ vs) (drop (length g + length vs) l) (length g + length vs) (length-append g vs)
-  where
-    part : (k : ℕ) (x : List ℕ) → take (length (take k x)) x ≡ take k x
-    part zero x = refl
-    part (suc k) [] = refl
-    part (suc k) (y ∷ x) = ap (λ (r : List ℕ). y ∷ r) (part k x)
 
 module _ (modes run words : List ℕ) (at : ℕ) (few : length words ≤ 6) (room : at * 6 + 6 ≤ length run) (place : at < length modes) where
   abbrev modesThen : List ℕ

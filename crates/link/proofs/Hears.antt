@@ -1,42 +1,34 @@
 -- What the laptop makes of each answer of the fair dock.
 use mathlib.Core.Logic.{_⊎_, inl, inr}
-use mathlib.Core.Path.{_≡_, refl, ap, ap₂, sym, _∙_, subst}
-use mathlib.Core.Bool.{Bool, true, false, cond, not, _&&_, _||_, false≢true}
-use mathlib.Core.List.{List, [], _∷_, _++_}
-use Prim.Native.Nat.{ℕ, zero, suc, _+_, _*_, _<_, _≤_}
+use mathlib.Core.Path.{_≡_, refl, ap, sym, _∙_}
+use mathlib.Core.Bool.{Bool, true, false, _&&_}
+use mathlib.Core.List.{List, []}
+use Prim.Native.Nat.{ℕ, _+_, _*_, _<_, _≤_}
 use native.Mathlib.Omega.{arith}
-use lib.Dec.{leb, ltb, eqb}
-use lib.ListN.{length, getD, take, set, replicate}
+use lib.Dec.{leb, eqb}
+use lib.ListN.{length, take, set, replicate}
 use lib.Seq.{sets}
-use borrow.Author.Tests.{eqb-true, ne-eqb, lt-ltb, le-ltb, le-leb, lt-leb, eq-eqb}
+use borrow.Author.Tests.{ne-eqb, lt-ltb, le-ltb, le-leb, lt-leb}
 use Rattle.laws.specs.Padded.{padded}
-use Rattle.laws.proofs.Lines.{and-left, and-right}
 use Rattle.messages.specs.Layout.{ack, nak, busy, Message}
 use Rattle.messages.specs.Reading.{accepted}
-use Rattle.messages.specs.Requests.{svidsCommand, modesCommand, requestOf, sameRequest}
+use Rattle.messages.specs.Requests.{svidsCommand, modesCommand}
 use Rattle.messages.specs.Table.{pdSid}
-use Rattle.messages.specs.declared.Head.{Head}
 use Rattle.messages.specs.declared.request.Request.{Request}
 use Rattle.pages.specs.Pages.{halves}
 use Rattle.pages.specs.Taking.{verdict}
-use Rattle.pages.specs.declared.taking.Verdict.{Verdict}
-use Rattle.pages.specs.declared.taking.Verdict.the-variants.{Bad, Repeat, More, Ends}
+use Rattle.pages.specs.declared.taking.Verdict.the-variants.{Repeat, More, Ends}
 use Rattle.dock.specs.Dock.{reply}
-use Rattle.laptop.specs.Answers.{Opening, Gathering, gathering, Filling, filling, Marking, hearIdentity, unlessLast, takeAs, takePage, hearSvids, storeModes, hearModes, turnedDown, hearMode, isDone, isWhole, copied}
+use Rattle.laptop.specs.Answers.{Gathering, gathering, filling, hearIdentity, takePage, hearSvids, storeModes, hearModes, turnedDown, hearMode, isDone, isWhole, copied}
 use Rattle.laptop.specs.Calls.{refusedBy, turnedTo, shortRuns}
 use Rattle.laptop.specs.Catalogue.{heldList}
-use Rattle.laptop.specs.Hearing.{Result, only, fits, isLatePage, hearUnawaited, withOpening, withGathering, withFilling, withMarking, settledStep, settledList, settledRun, settled, hearAnswer, hear, heard}
+use Rattle.laptop.specs.Hearing.{Result, only, fits, isLatePage, hearUnawaited, withGathering, withFilling, settledStep, settledList, settledRun, settled, hearAnswer, hear, heard}
 use Rattle.laptop.specs.Marks.{marksAfter}
 use Rattle.laptop.specs.Owner.{discover}
-use Rattle.laptop.specs.State.{Memory, memory, gatheredList, ended, dropped, opened, withPages, counted, gatheredTo, filledTo, published, identityRequest}
-use Rattle.laptop.specs.declared.Candidate.{Candidate}
+use Rattle.laptop.specs.State.{Memory, memory, gatheredList, ended, dropped, opened, withPages, gatheredTo, filledTo, published, identityRequest}
 use Rattle.laptop.specs.declared.Candidate.the-variants.{Absent, Open, Done}
 use Rattle.laptop.specs.declared.Laptop.{Laptop}
-use Rattle.laptop.specs.declared.Step.{Step}
-use Rattle.laptop.specs.declared.Told.{Told}
 use Rattle.laptop.specs.declared.Told.the-variants.{Nothing as Told·Nothing}
-use Rattle.laptop.specs.declared.Wait.{Wait}
-use Rattle.laptop.specs.declared.Wait.the-variants.{Nothing, Answer}
 use Rattle.laptop.proofs.Listing.{counted-more, take-repeat, take-repeat-last, take-full, take-full-last, take-ending}
 use Rattle.laptop_laws.specs.WellFormed.{Lent}
 

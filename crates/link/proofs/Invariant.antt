@@ -1,8 +1,7 @@
 -- What holds of laptop, link and dock in every run.
 use mathlib.Core.Logic.{_⊎_}
-use mathlib.Core.Option.{some}
 use mathlib.Core.Path.{_≡_}
-use mathlib.Core.Bool.{Bool, true, false}
+use mathlib.Core.Bool.{true}
 use mathlib.Core.List.{List, []}
 use Prim.Native.Nat.{ℕ, _+_, _/_, _<_, _≤_}
 use lib.ListN.{length, getD, take}
@@ -17,6 +16,7 @@ use Rattle.dock.specs.Dock.{reply}
 use Rattle.dock.specs.declared.Dock.{Dock}
 use Rattle.dock.specs.declared.Standing.{Standing}
 use Rattle.dock.specs.declared.Standing.the-variants.{Ready, Asking, Sending}
+use Rattle.catalogue.specs.Bytes.{holding as holds}
 use Rattle.laptop.specs.Catalogue.{modesAt}
 use Rattle.laptop.specs.Owner.{discover, requestMessage}
 use Rattle.laptop.specs.State.{Memory, identityRequest}
@@ -118,7 +118,7 @@ module _ (modesOf : ℕ → List ℕ) (d : Dock) where
 
   module _ (old : Holding) where
     abbrev pub HeldIs : Laptop → Memory → Type 0
-    HeldIs l m = (holding l m ≡ old) ⊎ (heldIn (holding l m) ≡ some (whole modesOf d))
+    HeldIs l m = (holding l m ≡ old) ⊎ (heldIn (holding l m) ≡ holds (whole modesOf d))
 
     pub record Invariant (l : Laptop) (m : Memory) (way : Way) (q : ℕ) (t : Standing) (v : Carried) (z : ℕ) : Type 0 where
       pub formed : WellFormed l m

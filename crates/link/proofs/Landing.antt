@@ -1,19 +1,18 @@
 -- An answer of the fair dock arrives at the laptop: what becomes of the candidate, of what is held and of the gathering.
 use mathlib.Core.Logic.{_⊎_, inl, inr}
-use mathlib.Core.Option.{some}
 use mathlib.Core.Path.{_≡_, refl, ap, ap₂, sym, _∙_, subst}
 use mathlib.Core.Bool.{Bool, true, false, cond, not, _&&_, _||_, false≢true}
-use mathlib.Core.List.{List, [], _∷_, _++_}
-use Prim.Native.Nat.{ℕ, zero, suc, _+_, _*_, _/_, _<_, _≤_}
+use mathlib.Core.List.{List, [], _++_}
+use Prim.Native.Nat.{ℕ, _+_, _*_, _/_, _<_, _≤_}
 use native.Mathlib.Omega.{arith}
-use lib.Dec.{leb, ltb, eqb}
+use lib.Dec.{ltb, eqb}
 use lib.ListN.{length, getD, take, set, replicate, length-append, length-take}
 use lib.Seq.{sets, length-sets, getD-take, length-take-le, take-nil}
 use borrow.Author.Tests.{eqb-true, eqb-false, eq-eqb, ne-eqb, lt-ltb, le-ltb, ltb-true, ltb-false}
 use Rattle.laws.specs.Padded.{padded}
 use Rattle.laws.proofs.Lines.{and-left, and-right}
 use Rattle.laws.proofs.Padded.{take-padded}
-use Rattle.messages.specs.Layout.{ack, nak, busy, Message}
+use Rattle.messages.specs.Layout.{busy}
 use Rattle.messages.specs.Reading.{accepted}
 use Rattle.messages.specs.Requests.{svidsCommand, modesCommand, requestOf, sameRequest}
 use Rattle.messages.specs.Table.{pdSid}
@@ -29,6 +28,7 @@ use Rattle.dock.specs.Data.{listed}
 use Rattle.dock.specs.Dock.{reply}
 use Rattle.dock.specs.declared.Dock.{Dock}
 use Rattle.dock.specs.declared.Standing.{Standing}
+use Rattle.catalogue.specs.Bytes.{holding as holds}
 use Rattle.laptop.specs.Calls.{refusedBy, turnedTo}
 use Rattle.laptop.specs.Catalogue.{Entry, modesAt, entriesFrom, heldList}
 use Rattle.laptop.specs.Answers.{Gathering, gathering, filling, turnedDown, copied}
@@ -44,13 +44,14 @@ use Rattle.laptop.specs.declared.Told.the-variants.{Nothing as Told·Nothing}
 use Rattle.laptop.specs.declared.Wait.{Wait}
 use Rattle.laptop.specs.declared.Wait.the-variants.{Nothing, Answer}
 use Rattle.laptop_laws.specs.Holding.{holding}
-use Rattle.laptop_laws.specs.WellFormed.{Lent, Listed, CandidateFits, WaitFits, awaitsIdentity, WellFormed}
+use Rattle.laptop_laws.specs.WellFormed.{Listed, CandidateFits, WaitFits, awaitsIdentity, WellFormed}
+use Rattle.laptop_laws.proofs.Behind.{sets-behind, below}
 use Rattle.laptop_laws.proofs.Copies.{catalogue-copied}
 use Rattle.link.specs.Demand.{Meets, entriesOf, whole, heldIn, isLastHead}
 use Rattle.link.specs.Link.{isUnsure, opens}
 use Rattle.link.proofs.Arrival.{Arrival}
 use Rattle.link.proofs.Course.{FairAnswer, identityAck, pageAck, modesAck, modeAck, listNak, busyTo, isPage, Carried, At, in-step, lost-one, Course, even, undecided, early, Taken, grows, again, finishes, taken}
-use Rattle.link.proofs.Filling.{sets-behind, stored-here, stored-before, entries-are}
+use Rattle.link.proofs.Filling.{stored-here, stored-before, entries-are}
 use Rattle.link.proofs.Hears.{hear-fit, hear-late, hear-ignored, identity-heard, identity-busy, svids-busy, svids-nak, page-more, page-again, page-fourteen, page-last, modes-busy, modes-more, modes-last, mode-busy, mode-marked}
 use Rattle.link.proofs.Invariant.{dockAt, messageOf, Gave, Shaped, Complete, CandidateIs}
 
@@ -74,13 +75,6 @@ and-no false = refl
 or-no : (b : Bool) → (b || false) ≡ b
 or-no true = refl
 or-no false = refl
-
-before : (i n : ℕ) → i < n + 1 → (i ≡ n → ⊥) → i < n
-before i n h e = go (ltb i n) refl
-  where
-    go : (b : Bool) → ltb i n ≡ b → i < n
-    go true x = ltb-true i n x
-    go false x = absurd (e (let y = ltb-false i n x in omega arith))
 
 -- where a list is open and a page comes, it fits or is late
 no-late-page : (l : Laptop) (x : FairAnswer) (modesOf : ℕ → List ℕ) (d : Dock) (w : Wait) (pages filled : ℕ) (svids : List ℕ) → l .wait ≡ w → l .candidate ≡ Open →
@@ -159,7 +153,7 @@ module _ (modesOf : ℕ → List ℕ) (d : Dock) (meets : Meets modesOf d) (l : 
 
   pub record Lands (r : Result) : Type 0 where
     pub candidate-lands : CandidateLands r (arrival .fate-then (unsure r)) (lostAfter r)
-    pub new-lands : isLastHead l head ≡ true → heldIn (holding (r .step .laptop) (r .after)) ≡ some (whole modesOf d)
+    pub new-lands : isLastHead l head ≡ true → heldIn (holding (r .step .laptop) (r .after)) ≡ holds (whole modesOf d)
     pub old-lands : isLastHead l head ≡ false → holding (r .step .laptop) (r .after) ≡ holding l m
     pub wait-lands : (r .step .laptop .wait ≡ Nothing) ⊎ (r .step .laptop ≡ l)
     pub silent : r .step .length ≡ 0
@@ -491,10 +485,10 @@ module _ (modesOf : ℕ → List ℕ) (d : Dock) (meets : Meets modesOf d) (l : 
               (copied (take 0 (m .modes)) (m .run) 0 (m .heldRun)) (m .entered);
         }
 
-    empty-whole : heldIn (holding (emptied .step .laptop) (emptied .after)) ≡ some (whole modesOf d)
+    empty-whole : heldIn (holding (emptied .step .laptop) (emptied .after)) ≡ holds (whole modesOf d)
     unfolding entriesFrom
     empty-whole =
-        ap some (ap₂ (λ (i : List ℕ) (e : List Entry). record { identity = i; entries = e }) (nak-is .0) (ap (entriesOf modesOf) (sym gave)))
+        ap holds (ap₂ (λ (i : List ℕ) (e : List Entry). record { identity = i; entries = e }) (nak-is .0) (ap (entriesOf modesOf) (sym gave)))
 
     nak-lands : LandsOf listNak shaped gave arrival emptied
     nak-lands =
@@ -530,8 +524,8 @@ module _ (modesOf : ℕ → List ℕ) (d : Dock) (meets : Meets modesOf d) (l : 
     unfolding wellShaped
     few-words = omega (arith, shape-count (messageOf modesOf d (modesAck svid) .head) (length words + 1) shaped .1)
 
-    below : l .filled < 72
-    below = omega (arith, done-fits .1, done-fits .0 .count-fits)
+    places-left : l .filled < 72
+    places-left = omega (arith, done-fits .1, done-fits .0 .count-fits)
 
     abbrev modesNow : List ℕ
     modesNow = set (m .modes) (l .filled) (length words)
@@ -549,10 +543,10 @@ module _ (modesOf : ℕ → List ℕ) (d : Dock) (meets : Meets modesOf d) (l : 
     modes-now i h = go (eqb i (l .filled)) refl
       where
         room : l .filled * 6 + 6 ≤ length (m .run)
-        room = omega (arith, below, formed .lent .run-size)
+        room = omega (arith, places-left, formed .lent .run-size)
 
         place : l .filled < length (m .modes)
-        place = omega (arith, below, formed .lent .modes-size)
+        place = omega (arith, places-left, formed .lent .modes-size)
 
         go : (b : Bool) → eqb i (l .filled) ≡ b → modesAt modesNow runNow i ≡ modesOf (getD (listed d) i 0)
         go true e =
@@ -561,7 +555,7 @@ module _ (modesOf : ℕ → List ℕ) (d : Dock) (meets : Meets modesOf d) (l : 
             ap modesOf (named ∙ ap (λ (n : ℕ). getD (listed d) n 0) (sym same))
         go false e =
             let other = eqb-false i (l .filled) e in
-            let less : i < l .filled = before i (l .filled) h other in
+            let less : i < l .filled = below i (l .filled) h other in
             stored-before (m .modes) (m .run) words (l .filled) few-words room place i less ∙ complete .same-modes i less
 
     modes-head : isLastHead l (messageOf modesOf d (modesAck svid) .head) ≡ eqb (l .filled + 1) (l .gathered .count)
@@ -613,10 +607,10 @@ module _ (modesOf : ℕ → List ℕ) (d : Dock) (meets : Meets modesOf d) (l : 
               (copied (take (l .gathered .count) modesNow) runNow 0 (m .heldRun)) (m .entered);
         }
 
-    whole-held : l .filled + 1 ≡ l .gathered .count → heldIn (holding (publishes .step .laptop) (publishes .after)) ≡ some (whole modesOf d)
+    whole-held : l .filled + 1 ≡ l .gathered .count → heldIn (holding (publishes .step .laptop) (publishes .after)) ≡ holds (whole modesOf d)
     whole-held e =
         let room : 432 ≤ length runNow = omega (arith, length-sets (m .run) (l .filled * 6) words, formed .lent .run-size) in
-        ap some
+        ap holds
         (catalogue-copied (l .gathered) (m .identity) (m .svids) modesNow runNow (m .heldRun) (done-fits .0 .count-fits) room (formed .lent .held-run-size) ∙
         ap₂ (λ (i : List ℕ) (x : List Entry). record { identity = i; entries = x }) (complete .same-identity)
         (ap (λ (list : List ℕ). entriesFrom 0 list modesNow runNow) (complete .same-list) ∙
@@ -647,10 +641,10 @@ module _ (modesOf : ℕ → List ℕ) (d : Dock) (meets : Meets modesOf d) (l : 
         go : (b : Bool) → ltb (l .filled + 1) (l .gathered .count) ≡ b → ModesLand (hearAnswer l m (messageOf modesOf d (modesAck svid)))
         go true b =
             let less = ltb-true (l .filled + 1) (l .gathered .count) b in
-            subst ModesLand (sym (modes-more l m svid words below less)) (stored-lands less)
+            subst ModesLand (sym (modes-more l m svid words places-left less)) (stored-lands less)
         go false b =
             let least = ltb-false (l .filled + 1) (l .gathered .count) b in
-            subst ModesLand (sym (modes-last l m svid words below (modes-with .0) least)) (publish-lands (omega (arith, done-fits .1)))
+            subst ModesLand (sym (modes-last l m svid words places-left (modes-with .0) least)) (publish-lands (omega (arith, done-fits .1)))
 
   -- Enter and Exit: a mark changes
   module _ (r : Request) (shaped : Shaped modesOf d (modeAck r)) (gave : Gave modesOf d (modeAck r) q) (arrival : Arrival (listed d) t q z (modeAck r) v)

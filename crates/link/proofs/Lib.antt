@@ -11,3 +11,4 @@ pub mod Landing
 pub mod Arriving
 pub mod Runs
 pub mod Laws
+pub mod Cases

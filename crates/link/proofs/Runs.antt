@@ -1,6 +1,6 @@
 -- Each event keeps the invariant, and what it does to the gathering and to what is held.
 use mathlib.Core.Logic.{_⊎_, inl, inr}
-use mathlib.Core.Option.{Option, none, some}
+use mathlib.Core.Option.{some}
 use mathlib.Core.Path.{_≡_, refl, ap, ap₂, sym, _∙_, subst}
 use mathlib.Core.Bool.{Bool, true, false, cond, false≢true}
 use mathlib.Core.List.{List, [], _∷_}
@@ -14,26 +14,24 @@ use Rattle.dock.specs.declared.Dock.{Dock}
 use Rattle.dock.specs.declared.Policy.{Policy}
 use Rattle.dock.specs.declared.Standing.{Standing}
 use Rattle.dock.specs.declared.Standing.the-variants.{Ready, Asking, Sending}
+use Rattle.catalogue.specs.Bytes.{holding as holds}
 use Rattle.laptop.specs.Calls.{Decision, sends, refusedBy, sentBy, stepOf}
 use Rattle.laptop.specs.Hearing.{isLatePage, heard}
 use Rattle.laptop.specs.Owner.{isAbsent, requestMessage}
-use Rattle.laptop.specs.State.{Memory, ended, dropped, awaiting, identityRequest, identityAsked}
-use Rattle.laptop.specs.declared.Candidate.{Candidate}
+use Rattle.laptop.specs.State.{Memory, ended, awaiting, identityRequest, identityAsked}
 use Rattle.laptop.specs.declared.Candidate.the-variants.{Absent}
 use Rattle.laptop.specs.declared.Laptop.{Laptop}
-use Rattle.laptop.specs.declared.Told.{Told}
 use Rattle.laptop_laws.specs.Done.{Call, message, next, startOver, drop, enter, exit, timer, protocolError}
 use Rattle.laptop_laws.specs.Holding.{Holding, holding}
 use Rattle.laptop_laws.specs.WellFormed.{WellFormed}
-use Rattle.link.specs.Demand.{Meets, whole, heldIn, heldWords, Holds, onWay, arriving, isLastHead, isLastOutcome, isLastOf, isLastAnswer, Replaces, refusalOf, Ending, by-drop, by-start-over, by-late-page, by-fourteen, EndsBy, NeverBad}
+use Rattle.link.specs.Demand.{Meets, whole, heldIn, heldWords, onWay, arriving, isLastHead, isLastOutcome, isLastOf, isLastAnswer, Replaces, refusalOf, Ending, by-drop, by-start-over, by-late-page, by-fourteen, EndsBy, NeverBad}
 use Rattle.link.specs.Joined.{Way, clear, request, Fate, gone, coming, confirmed, came, System, Event, calls, loseRequest, reach, answer, loseAnswer, arrive, sent, failed}
 use Rattle.link.specs.Link.{called, reaches, answeredBy, isFair, answers, hearsSent, hearsFailed, losesAnswer, step, run}
 use Rattle.link.proofs.Arriving.{arrive-ok, answer-read, timely-landed, sure-landed}
 use Rattle.link.proofs.AtDock.{Inv, lose-request, reach-ok, answer-ok, lose-ok, sent-ok, failed-ok}
 use Rattle.link.proofs.AtLaptop.{Decides, stays, asks-identity, asks-other, drops, ends, next-is, start-over-is, drop-is, enter-is, exit-is, timer-is, error-is, call-ok}
-use Rattle.link.proofs.Bytes.{sends-out}
-use Rattle.link.proofs.Course.{FairAnswer, Carried, nothing, underWay, sure, arrived}
-use Rattle.link.proofs.Invariant.{messageOf, Shaped, fateOf, Invariant, systemOf, Reached}
+use Rattle.link.proofs.Course.{Carried, nothing, underWay, sure, arrived}
+use Rattle.link.proofs.Invariant.{messageOf, fateOf, systemOf, Reached}
 
 module _ (modesOf : ℕ → List ℕ) (d : Dock) (meets : Meets modesOf d) (old : Holding) where
   step-ok : (e : Event) (l : Laptop) (m : Memory) (way : Way) (q : ℕ) (t : Standing) (v : Carried) (z : ℕ) → Inv modesOf d old l m way q t v z →
@@ -194,7 +192,7 @@ module _ (modesOf : ℕ → List ℕ) (start : System) where
   HeardDoes s bytes x =
       (isLastHead (s .laptop) (x .head) ≡ true →
       heldIn (holding (heard (s .laptop) (s .memory) (readOutcome bytes) .step .laptop) (heard (s .laptop) (s .memory) (readOutcome bytes) .after)) ≡
-      some (whole modesOf (start .dock))) ×
+      holds (whole modesOf (start .dock))) ×
       (isLastHead (s .laptop) (x .head) ≡ false →
       holding (heard (s .laptop) (s .memory) (readOutcome bytes) .step .laptop) (heard (s .laptop) (s .memory) (readOutcome bytes) .after) ≡ heldWords s) ×
       (isAbsent (s .laptop .candidate) ≡ false → isAbsent (heard (s .laptop) (s .memory) (readOutcome bytes) .step .laptop .candidate) ≡ true →
@@ -243,11 +241,11 @@ module _ (modesOf : ℕ → List ℕ) (start : System) where
     event-does arrive l m way q t (underWay a) z i =
         let f = timely-landed modesOf d meets old l m way q t z a i in
         arrived-does _ (messageBytes (messageOf modesOf d a)) (messageOf modesOf d a) refl (answer-read modesOf d meets a (i .fate-fits .1)) refl refl
-        (λ b. f .new-lands b ∙ ap some (sym same), f .old-lands, f .end-lands, f .refusal-lands)
+        (λ b. f .new-lands b ∙ ap holds (sym same), f .old-lands, f .end-lands, f .refusal-lands)
     event-does arrive l m way q t (sure a) z i =
         let f = sure-landed modesOf d meets old l m way q t z a i in
         arrived-does _ (messageBytes (messageOf modesOf d a)) (messageOf modesOf d a) refl (answer-read modesOf d meets a (i .fate-fits .1)) refl refl
-        (λ b. f .new-lands b ∙ ap some (sym same), f .old-lands, f .end-lands, f .refusal-lands)
+        (λ b. f .new-lands b ∙ ap holds (sym same), f .old-lands, f .end-lands, f .refusal-lands)
 
     pub does : (e : Event) (s : System) → Reached modesOf d old s → Does e s
     does e s r =

@@ -18,21 +18,20 @@ use Rattle.dock.specs.Dock.{stepOf, decideMessage}
 use Rattle.dock.specs.Sound.{Sound}
 use Rattle.dock.specs.declared.Dock.{Dock}
 use Rattle.dock.specs.declared.Standing.the-variants.{Ready}
-use Rattle.laptop.specs.Catalogue.{Entry, Catalogue, catalogueIn}
+use Rattle.catalogue.specs.Bytes.{HeldCatalogue, heldCatalogue}
+use Rattle.catalogue.specs.Bytes.{holding as holds}
+use Rattle.laptop.specs.Catalogue.{Entry, Catalogue}
 use Rattle.laptop.specs.Hearing.{fits, isLatePage}
 use Rattle.laptop.specs.Owner.{isAbsent, requestMessage}
 use Rattle.laptop.specs.State.{gatheredList, identityRequest}
 use Rattle.laptop.specs.declared.Candidate.the-variants.{Done}
-use Rattle.laptop.specs.declared.Held.{Held}
-use Rattle.laptop.specs.declared.Held.the-variants.{Catalogue as Held·Catalogue}
-use Rattle.laptop.specs.declared.Held.the-variants.{Nothing as Held·Nothing}
 use Rattle.laptop.specs.declared.Laptop.{Laptop}
 use Rattle.laptop.specs.declared.Wait.the-variants.{Nothing, Answer}
 use Rattle.laptop_laws.specs.Done.{startOver, drop, message, done}
 use Rattle.laptop_laws.specs.Holding.{Holding, holding}
 use Rattle.laptop_laws.specs.WellFormed.{WellFormed}
-use Rattle.link.specs.Joined.{Way, clear, request, Fate, gone, coming, confirmed, came, System, Event, calls, loseRequest, reach, answer, loseAnswer, arrive, sent, failed}
-use Rattle.link.specs.Link.{step, run}
+use Rattle.link.specs.Joined.{request, Fate, gone, coming, confirmed, came, System, Event, calls, loseRequest, reach, answer, loseAnswer, arrive, sent, failed}
+use Rattle.link.specs.Link.{step}
 
 -- fixed data that meets 01: a sound dock, whose numbers are as wide as messages have them. That each listed SVID has modes is not asked: the
 -- dock refuses policy's answer otherwise
@@ -50,6 +49,13 @@ pub record Begins (s : System) : Type 0 where
   pub nothing-else : s .fate ≡ gone
   pub at-rest : s .dock .standing ≡ Ready
 
+-- before that: a well-formed laptop that awaits nothing, nothing on its way, and the dock at rest
+pub record AtRest (s : System) : Type 0 where
+  pub formed : WellFormed (s .laptop) (s .memory)
+  pub nothing-awaited : s .laptop .wait ≡ Nothing
+  pub nothing-comes : s .fate ≡ gone
+  pub dock-ready : s .dock .standing ≡ Ready
+
 -- the dock's whole catalogue, in order
 abbrev pub entriesOf : (ℕ → List ℕ) → List ℕ → List Entry
 entriesOf modesOf [] = []
@@ -59,18 +65,14 @@ abbrev pub whole : (ℕ → List ℕ) → Dock → Catalogue
 whole modesOf d = record { identity = take (d .objects) (d .identity); entries = entriesOf modesOf (listed d) }
 
 -- the catalogue that the laptop holds
-abbrev pub heldAs : Held → Holding → Option Catalogue
-heldAs Held·Nothing h = none
-heldAs (Held·Catalogue size) h = some (catalogueIn size (h .identity) (h .svids) (h .modes) (h .run))
-
-abbrev pub heldIn : Holding → Option Catalogue
-heldIn h = heldAs (h .held) h
+abbrev pub heldIn : Holding → HeldCatalogue
+heldIn h = heldCatalogue (h .held) (h .identity) (h .svids) (h .modes) (h .run)
 
 abbrev pub heldWords : System → Holding
 heldWords s = holding (s .laptop) (s .memory)
 
 abbrev pub Holds : Catalogue → System → Type 0
-Holds catalogue s = heldIn (heldWords s) ≡ some catalogue
+Holds catalogue s = heldIn (heldWords s) ≡ holds catalogue
 
 -- the old catalogue, unharmed to the word, or the dock's whole one
 abbrev pub OldOrWhole : (ℕ → List ℕ) → System → System → Type 0

@@ -1,4 +1,5 @@
 -- Document 01, "The link and the fair dock of demand 3", and what demand 3 says of it.
+pub mod Cases
 pub mod Demand
 pub mod Joined
 pub mod Link

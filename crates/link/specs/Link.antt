@@ -98,13 +98,13 @@ brought modesOf Busy r = []
 brought modesOf Nak r = []
 
 abbrev pub answeredBy : List ℕ → Decision → System → System
-answeredBy out decision s =
+answeredBy out offer s =
     record {
       laptop = s .laptop;
       memory = s .memory;
       way = s .way;
-      fate = handedOver (s .dock) decision out (s .fate);
-      dock = stepOf (s .dock) decision (length out) .dock;
+      fate = handedOver (s .dock) offer out (s .fate);
+      dock = stepOf (s .dock) offer (length out) .dock;
       lost = s .lost;
     }
 

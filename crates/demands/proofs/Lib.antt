@@ -1,0 +1,2 @@
+-- The front page.
+pub mod Demands

@@ -1,0 +1,1 @@
+-- The front page has no definitions of its own.

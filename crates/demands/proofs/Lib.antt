@@ -1,2 +1,3 @@
--- The front page.
+-- The front page, and how tight the promises are.
 pub mod Demands
+pub mod Tight

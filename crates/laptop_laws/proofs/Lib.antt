@@ -5,4 +5,5 @@ pub mod Copies
 pub mod Keeping
 pub mod Laws
 pub mod Leaves
+pub mod Refusing
 pub mod Replacing

@@ -30,7 +30,8 @@ use Rattle.link.proofs.AtDock.{Inv, reached, page-given}
 use Rattle.link.proofs.Bytes.{reads}
 use Rattle.link.proofs.Course.{FairAnswer, identityAck, pageAck, modesAck, modeAck, listNak, busyTo, Carried, nothing, underWay, sure, arrived, arrivedAs, lostAs}
 use Rattle.link.proofs.Invariant.{WayFits, dockAt, messageOf, fateOf, Gives, Gave, Shaped, FateFits, HeldIs, systemOf, Reached}
-use Rattle.link.proofs.Landing.{Lands, lands}
+use Rattle.link.proofs.Landed.{lands}
+use Rattle.link.proofs.Landing.{Lands}
 
 module _ (modesOf : ℕ → List ℕ) (d : Dock) (meets : Meets modesOf d) where
   objects-fit : (a : FairAnswer) → Below (2 ^ 32) (messageOf modesOf d a .objects)

@@ -7,7 +7,12 @@ pub mod AtLaptop
 pub mod Hears
 pub mod Arrival
 pub mod Filling
+pub mod Awaited
+pub mod Landed
 pub mod Landing
+pub mod ModesLanding
+pub mod OtherLanding
+pub mod PageLanding
 pub mod Arriving
 pub mod Runs
 pub mod Laws

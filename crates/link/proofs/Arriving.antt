@@ -26,7 +26,8 @@ use Rattle.link.specs.Demand.{Meets, heldIn, isLastHead}
 use Rattle.link.specs.Joined.{Way, clear}
 use Rattle.link.specs.Link.{wayAfter, isUnsure, opens, fateOnArrival, lostOnArrival, arrives}
 use Rattle.link.proofs.Arrival.{Arrival, on-time, confirmed-first}
-use Rattle.link.proofs.AtDock.{Inv, reached, page-given}
+use Rattle.link.proofs.AtDock.{Inv, reached}
+use Rattle.link.proofs.Confirming.{page-given}
 use Rattle.link.proofs.Bytes.{reads}
 use Rattle.link.proofs.Course.{FairAnswer, identityAck, pageAck, modesAck, modeAck, listNak, busyTo, Carried, nothing, underWay, sure, arrived, arrivedAs, lostAs}
 use Rattle.link.proofs.Invariant.{WayFits, dockAt, messageOf, fateOf, Gives, Gave, Shaped, FateFits, HeldIs, systemOf, Reached}

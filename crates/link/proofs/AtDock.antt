@@ -1,28 +1,25 @@
--- The events at the dock and on the link keep the invariant.
-use mathlib.Core.Logic.{_⊎_, inl, inr}
+-- A request reaches the dock, or policy answers it: the invariant is kept.
+use mathlib.Core.Logic.{inl, inr}
 use mathlib.Core.Path.{_≡_, refl, ap, ap₂, sym, _∙_, subst}
-use mathlib.Core.Bool.{Bool, true, false, cond, not, _&&_, false≢true}
-use mathlib.Core.List.{List, [], _∷_}
-use Prim.Native.Nat.{ℕ, _+_, _/_, _<_, _≤_}
+use mathlib.Core.Bool.{Bool, true, false, cond, not, _&&_}
+use mathlib.Core.List.{List}
+use Prim.Native.Nat.{ℕ, _+_, _/_, _≤_}
 use native.Mathlib.Omega.{arith}
-use lib.Dec.{leb, eqb}
+use lib.Dec.{eqb}
 use lib.ListN.{length, getD, take}
-use borrow.Author.Tests.{eq-eqb, ne-eqb, eqb-true, le-leb}
-use Rattle.laws.proofs.Lines.{and-left, and-right}
+use borrow.Author.Tests.{ne-eqb, le-leb}
 use Rattle.messages.specs.Reading.{accepted, readOutcome}
-use Rattle.messages.specs.Requests.{svidsCommand, modesCommand, sameRequest}
-use Rattle.messages.specs.Table.{pdSid, oneToFive}
+use Rattle.messages.specs.Table.{oneToFive}
 use Rattle.messages.specs.declared.request.Request.{Request}
 use Rattle.pages.specs.Pages.{isLast}
-use Rattle.dock.specs.Data.{listed, goodIdentity, withPage, withStanding}
-use Rattle.dock.specs.Dock.{Decision, refuses, turns, sends, stepOf, asking, sending, decideRequest, decideMessage, isEmpty, givePage, giveIdentity, giveModes, giveOther, bare, decidePolicy, decideAnswer, moved, decideSent, decideFailed}
+use Rattle.dock.specs.Data.{listed, withPage, withStanding}
+use Rattle.dock.specs.Dock.{Decision, refuses, turns, sends, stepOf, asking, decideRequest, decideMessage, decideAnswer, moved}
 use Rattle.dock.specs.declared.Dock.{Dock}
 use Rattle.dock.specs.declared.Policy.{Policy}
-use Rattle.dock.specs.declared.Policy.the-variants.{Give, Nak, Busy}
 use Rattle.dock.specs.declared.Standing.{Standing}
 use Rattle.dock.specs.declared.Standing.the-variants.{Ready, Asking, Sending}
-use Rattle.laptop.specs.Owner.{discover, requestMessage}
-use Rattle.laptop.specs.State.{Memory, identityRequest}
+use Rattle.laptop.specs.Owner.{requestMessage}
+use Rattle.laptop.specs.State.{Memory}
 use Rattle.laptop.specs.declared.Candidate.{Candidate}
 use Rattle.laptop.specs.declared.Candidate.the-variants.{Absent, Open, Done}
 use Rattle.laptop.specs.declared.Laptop.{Laptop}
@@ -32,10 +29,11 @@ use Rattle.laptop.specs.declared.Wait.the-variants.{Answer}
 use Rattle.laptop_laws.specs.Holding.{Holding}
 use Rattle.laptop_laws.specs.WellFormed.{WaitFits}
 use Rattle.link.specs.Joined.{Way, clear, request, Fate, gone, System}
-use Rattle.link.specs.Link.{handedOver, lostWith, reachedBy, reaches, isFair, brought, answeredBy, answers, hearsSent, fateOnFailure, hearsFailed, losesRequest, losesAnswer}
+use Rattle.link.specs.Link.{handedOver, lostWith, reachedBy, reaches, isFair, brought, answeredBy, answers, losesRequest}
 use Rattle.link.proofs.Bytes.{reads, HandsOver, hands-over}
-use Rattle.link.proofs.Course.{FairAnswer, identityAck, pageAck, modesAck, modeAck, listNak, busyTo, isPage, Carried, nothing, underWay, sure, arrived, lostThen, Quiet, NoSurePage, settled-lost, quiet-settled, movesOn, moves-other, Course, replaced, passes, answered, confirmed-after, confirmed-before}
-use Rattle.link.proofs.Invariant.{Out, WayFits, Known, known-identity, known-svids, known-modes, known-mode, AsksFit, dockAt, messageOf, fateOf, Gives, Gave, FateFits, Complete, CandidateIs, Invariant, systemOf, Reached}
+use Rattle.link.proofs.Course.{FairAnswer, isPage, Carried, nothing, underWay, sure, arrived, lostThen, Quiet, NoSurePage, settled-lost, quiet-settled, movesOn, Course, replaced, answered}
+use Rattle.link.proofs.Invariant.{Out, WayFits, Known, known-identity, known-svids, known-modes, known-mode, AsksFit, dockAt, messageOf, fateOf, Gives, FateFits, Complete, CandidateIs, Invariant, systemOf, Reached}
+use Rattle.link.proofs.Offering.{Offers, offers, declines, asked-by, fair-offered}
 
 -- a request of Identity to Exit that reaches the dock is never refused: it asks policy
 one-to-five : (n : ℕ) → 1 ≤ n → n ≤ 5 → oneToFive n ≡ true
@@ -61,7 +59,7 @@ module _ (modesOf : ℕ → List ℕ) (d : Dock) where
       go true = refl
       go false = refl
 
-  moved-at : (b : Bool) (q : ℕ) (t : Standing) → moved b (dockAt modesOf d q t) ≡ dockAt modesOf d (movesOn (listed d) b q) Ready
+  pub moved-at : (b : Bool) (q : ℕ) (t : Standing) → moved b (dockAt modesOf d q t) ≡ dockAt modesOf d (movesOn (listed d) b q) Ready
   unfolding moved movesOn
   moved-at b q t = go (b && not (isLast (listed d) q))
     where
@@ -83,7 +81,7 @@ module _ (modesOf : ℕ → List ℕ) (d : Dock) where
           settled = quiet-settled t v′ y;
         }
 
-    candidate-replaced : (c : Candidate) (t : Standing) (q : ℕ) (v : Carried) (z : ℕ) → CandidateIs modesOf d c size filled pages m t q v z →
+    pub candidate-replaced : (c : Candidate) (t : Standing) (q : ℕ) (v : Carried) (z : ℕ) → CandidateIs modesOf d c size filled pages m t q v z →
         (t′ : Standing) (q′ : ℕ) (v′ : Carried) → Quiet t′ v′ → NoSurePage v → (c ≡ Open → q′ ≡ q) →
         CandidateIs modesOf d c size filled pages m t′ q′ v′ (lostThen v z)
     candidate-replaced Absent t q v z c t′ q′ v′ y n e = tt
@@ -95,7 +93,7 @@ module _ (modesOf : ℕ → List ℕ) (d : Dock) where
     candidate-replaced Done t q v z c t′ q′ v′ y n e = complete-on c v′ t′ y
 
     -- or its fate moves on while the page is not undecided
-    complete-same : {v : Carried} {z : ℕ} → Complete modesOf d size filled pages m v z → (v′ : Carried) (t : Standing) → Quiet t v′ →
+    pub complete-same : {v : Carried} {z : ℕ} → Complete modesOf d size filled pages m v z → (v′ : Carried) (t : Standing) → Quiet t v′ →
         Complete modesOf d size filled pages m v′ z
     complete-same c v′ t y =
         record {
@@ -113,13 +111,13 @@ module _ (modesOf : ℕ → List ℕ) (d : Dock) where
   asking-sure r q (sure a) f = let e : Asking r ≡ Ready = f .2 in let o : _≡_ {A = ℕ} 0 1 = cc in absurd (omega arith)
   asking-sure r q (arrived b) f = tt
 
-  sending-sure : (b : Bool) (q : ℕ) (v : Carried) → FateFits modesOf d (Sending b) q v → NoSurePage v
+  pub sending-sure : (b : Bool) (q : ℕ) (v : Carried) → FateFits modesOf d (Sending b) q v → NoSurePage v
   sending-sure b q nothing f = tt
   sending-sure b q (underWay a) f = tt
   sending-sure b q (sure a) f = let e : Sending b ≡ Ready = f .2 in let o : _≡_ {A = ℕ} 0 1 = cc in absurd (omega arith)
   sending-sure b q (arrived x) f = tt
 
-  lost-is : (v : Carried) (z : ℕ) → lostWith (fateOf modesOf d v) z ≡ lostThen v z
+  pub lost-is : (v : Carried) (z : ℕ) → lostWith (fateOf modesOf d v) z ≡ lostThen v z
   lost-is nothing z = refl
   lost-is (underWay a) z = refl
   lost-is (sure a) z = refl
@@ -144,7 +142,7 @@ module _ (modesOf : ℕ → List ℕ) (d : Dock) where
         }
 
     module _ (l : Laptop) (m : Memory) (way : Way) (q : ℕ) (t : Standing) (v : Carried) (z : ℕ) (i : Inv l m way q t v z) where
-      same-reached : Reached modesOf d old (systemOf modesOf d old l m way q t v z)
+      pub same-reached : Reached modesOf d old (systemOf modesOf d old l m way q t v z)
       same-reached = reached _ q t v refl refl i
 
       -- the request is lost
@@ -161,7 +159,7 @@ module _ (modesOf : ℕ → List ℕ) (d : Dock) where
           })
 
     -- the dock and the link change, the laptop does not
-    moves : (l : Laptop) (m : Memory) (way way′ : Way) (q q′ : ℕ) (t t′ : Standing) (v v′ : Carried) (z z′ : ℕ) → Inv l m way q t v z →
+    pub moves : (l : Laptop) (m : Memory) (way way′ : Way) (q q′ : ℕ) (t t′ : Standing) (v v′ : Carried) (z z′ : ℕ) → Inv l m way q t v z →
         CandidateIs modesOf d (l .candidate) (l .gathered) (l .filled) (l .pages) m t′ q′ v′ z′ → WayFits (l .wait) way′ →
         FateFits modesOf d t′ q′ v′ → AsksFit t′ q′ → Inv l m way′ q′ t′ v′ z′
     moves l m way way′ q q′ t t′ v v′ z z′ i c w f a =
@@ -237,86 +235,6 @@ module _ (modesOf : ℕ → List ℕ) (d : Dock) where
     reach-ok l m (request bytes) q t (sure a) z i out = same-reached l m (request bytes) q t (sure a) z i
     reach-ok l m (request bytes) q t (arrived b) z i out = reach-request l m bytes q t (arrived b) z i out tt
 
-same-request : (r : Request) → sameRequest r r ≡ true
-same-request r = rw (eq-eqb (r .svid) (r .svid) refl, eq-eqb (r .command) (r .command) refl, eq-eqb (r .position) (r .position) refl)
-
-empty-list : (list : List ℕ) → isEmpty list ≡ true → list ≡ []
-empty-list [] e = refl
-empty-list (x ∷ list) e = absurd (false≢true e)
-
-some-list : (list : List ℕ) → isEmpty list ≡ false → 0 < length list
-some-list [] e = absurd (false≢true (sym e))
-some-list (x ∷ list) e = omega arith
-
-module _ (modesOf : ℕ → List ℕ) (d : Dock) (q : ℕ) where
-  -- the dock has an answer of the fair dock to send, or refuses policy's
-  data Offers (x : Decision) : Type 0 where
-    offers : (a : FairAnswer) → Gives modesOf d a q → x ≡ sends (messageOf modesOf d a) (dockAt modesOf d q (Sending (isPage a))) → Offers x
-    declines : (number : ℕ) → x ≡ refuses number → Offers x
-
-  either : (b : Bool) (x y : Decision) → (b ≡ true → Offers x) → (b ≡ false → Offers y) → Offers (cond b x y)
-  either true x y f g = f refl
-  either false x y f g = g refl
-
-  asked-by : (r : Request) → Dock
-  asked-by r = dockAt modesOf d q (Asking r)
-
-  identity-offered : q ≡ 0 → Offers (decideAnswer (asked-by identityRequest) (Asking identityRequest) Give identityRequest (brought modesOf Give identityRequest))
-  unfolding decideAnswer decidePolicy brought bare giveOther giveIdentity asked-by sending
-  identity-offered e = either (goodIdentity (d .objects)) _ _ (λ g. offers identityAck e refl) (λ g. declines 10 refl)
-
-  svids-offered : Offers (decideAnswer (asked-by (discover pdSid svidsCommand)) (Asking (discover pdSid svidsCommand)) Give (discover pdSid svidsCommand) (brought modesOf Give (discover pdSid svidsCommand)))
-  unfolding decideAnswer decidePolicy brought bare giveOther givePage asked-by sending
-  svids-offered =
-      either (isEmpty (listed d)) _ _ (λ g. offers listNak (empty-list (listed d) g) refl) (λ g. offers (pageAck q) (refl, some-list (listed d) g) refl)
-
-  modes-offered : (svid : ℕ) → Offers (decideAnswer (asked-by (discover svid modesCommand)) (Asking (discover svid modesCommand)) Give (discover svid modesCommand) (brought modesOf Give (discover svid modesCommand)))
-  unfolding decideAnswer decidePolicy brought giveModes asked-by sending
-  modes-offered svid =
-      rw (eq-eqb svid svid refl)
-      (either (leb 1 (length (modesOf svid)) && leb (length (modesOf svid)) 6) _ _ (λ g. offers (modesAck svid) tt refl) (λ g. declines 10 refl))
-
-  mode-offered : (r : Request) → 4 ≤ r .command → Offers (decideAnswer (asked-by r) (Asking r) Give r (brought modesOf Give r))
-  unfolding decideAnswer decidePolicy brought bare giveOther asked-by sending
-  mode-offered r h =
-      let one : eqb (r .command) 1 ≡ false = ne-eqb (r .command) 1 (λ e. omega arith) in
-      let two : eqb (r .command) 2 ≡ false = ne-eqb (r .command) 2 (λ e. omega arith) in
-      let three : eqb (r .command) 3 ≡ false = ne-eqb (r .command) 3 (λ e. omega arith) in
-      rw (same-request r, three, one, two) (offers (modeAck r) h refl)
-
-  busy-offered : (r : Request) → Offers (decideAnswer (asked-by r) (Asking r) Busy r (brought modesOf Busy r))
-  unfolding decideAnswer decidePolicy brought bare asked-by sending
-  busy-offered r = rw (same-request r) (offers (busyTo r) tt refl)
-
-  nak-offered : listed d ≡ [] →
-      Offers (decideAnswer (asked-by (discover pdSid svidsCommand)) (Asking (discover pdSid svidsCommand)) Nak (discover pdSid svidsCommand) (brought modesOf Nak (discover pdSid svidsCommand)))
-  unfolding decideAnswer decidePolicy brought bare asked-by sending
-  nak-offered e = offers listNak e refl
-
-  given : (r : Request) → Known r q → Offers (decideAnswer (asked-by r) (Asking r) Give r (brought modesOf Give r))
-  given r (known-identity e z) =
-      subst (λ (x : Request). Offers (decideAnswer (asked-by x) (Asking x) Give x (brought modesOf Give x))) (sym e) (identity-offered z)
-  given r (known-svids e) = subst (λ (x : Request). Offers (decideAnswer (asked-by x) (Asking x) Give x (brought modesOf Give x))) (sym e) svids-offered
-  given r (known-modes svid e) =
-      subst (λ (x : Request). Offers (decideAnswer (asked-by x) (Asking x) Give x (brought modesOf Give x))) (sym e) (modes-offered svid)
-  given r (known-mode h f) = mode-offered r h
-
-  denied : (r : Request) → Known r q → r .command ≡ 2 → listed d ≡ [] → Offers (decideAnswer (asked-by r) (Asking r) Nak r (brought modesOf Nak r))
-  denied r (known-identity e z) c l = absurd (omega (arith, ap (λ (x : Request). x .command) e))
-  denied r (known-svids e) c l =
-      subst (λ (x : Request). Offers (decideAnswer (asked-by x) (Asking x) Nak x (brought modesOf Nak x))) (sym e) (nak-offered l)
-  denied r (known-modes svid e) c l = absurd (omega (arith, ap (λ (x : Request). x .command) e))
-  denied r (known-mode h f) c l = absurd (omega arith)
-
-  -- a fair policy's answer
-  fair-offered : (policy : Policy) (r : Request) → Known r q → isFair policy r (listed d) ≡ true →
-      Offers (decideAnswer (asked-by r) (Asking r) policy r (brought modesOf policy r))
-  unfolding isFair
-  fair-offered Give r k f = given r k
-  fair-offered Busy r k f = busy-offered r
-  fair-offered Nak r k f =
-      denied r k (eqb-true (r .command) 2 (and-left (eqb (r .command) 2) _ f)) (empty-list (listed d) (and-right (eqb (r .command) 2) _ f))
-
 module _ (modesOf : ℕ → List ℕ) (d : Dock) (old : Holding) where
   candidate-answered : (c : Candidate) (size : Size) (filled pages : ℕ) (m : Memory) (r : Request) (q : ℕ) (v : Carried) (z : ℕ) (a : FairAnswer) →
       CandidateIs modesOf d c size filled pages m (Asking r) q v z → NoSurePage v → (t : Standing) →
@@ -371,125 +289,3 @@ module _ (modesOf : ℕ → List ℕ) (d : Dock) (old : Holding) where
   answer-ok l m way q Ready v z i policy out = same-reached modesOf d old l m way q Ready v z i
   answer-ok l m way q (Asking r) v z i policy out = policy-answered l m way q r v z i out policy (isFair policy r (listed d)) refl
   answer-ok l m way q (Sending b) v z i policy out = same-reached modesOf d old l m way q (Sending b) v z i
-
-  -- the answer is lost
-  candidate-lost : (c : Candidate) (size : Size) (filled pages : ℕ) (m : Memory) (t : Standing) (q z : ℕ) (a : FairAnswer) →
-      CandidateIs modesOf d c size filled pages m t q (underWay a) z → CandidateIs modesOf d c size filled pages m t q nothing z
-  candidate-lost Absent size filled pages m t q z a c = tt
-  candidate-lost Open size filled pages m t q z a c =
-      (c .0, passes (listed d) (c .1) t nothing tt tt (λ e. let o : _≡_ {A = ℕ} 0 1 = cc in omega arith))
-  candidate-lost Done size filled pages m t q z a c = complete-same modesOf d size filled pages m c nothing t tt
-
-  pub lose-ok : (l : Laptop) (m : Memory) (way : Way) (q : ℕ) (t : Standing) (v : Carried) (z : ℕ) → Inv modesOf d old l m way q t v z →
-      Reached modesOf d old (losesAnswer (fateOf modesOf d v) (systemOf modesOf d old l m way q t v z))
-  lose-ok l m way q t nothing z i = same-reached modesOf d old l m way q t nothing z i
-  lose-ok l m way q t (underWay a) z i =
-      reached modesOf d old _ q t nothing refl refl
-      (moves modesOf d old l m way way q q t t (underWay a) nothing z z i
-      (candidate-lost (l .candidate) (l .gathered) (l .filled) (l .pages) m t q z a (i .candidate-is)) (i .way-fits) tt (i .asks-fit))
-  lose-ok l m way q t (sure a) z i = same-reached modesOf d old l m way q t (sure a) z i
-  lose-ok l m way q t (arrived b) z i = same-reached modesOf d old l m way q t (arrived b) z i
-
-  -- the dock hears "sent"
-  gave : (a : FairAnswer) (q : ℕ) → Gives modesOf d a q → Gave modesOf d a (movesOn (listed d) (isPage a) q)
-  gave identityAck q g = moves-other (listed d) q ∙ g
-  gave (pageAck p) q g = g .1
-  gave (modesAck svid) q g = tt
-  gave (modeAck r) q g = g
-  gave listNak q g = g
-  gave (busyTo r) q g = tt
-
-  pub page-given : (a : FairAnswer) (q p : ℕ) → Gives modesOf d a q → a ≡ pageAck p → p ≡ q
-  page-given a q p g e = subst (λ (x : FairAnswer). Gives modesOf d x q) e g .0
-
-  candidate-sent : (c : Candidate) (size : Size) (filled pages : ℕ) (m : Memory) (b : Bool) (q z : ℕ) (x : Bool) →
-      CandidateIs modesOf d c size filled pages m (Sending b) q (arrived x) z →
-      CandidateIs modesOf d c size filled pages m Ready (movesOn (listed d) b q) nothing z
-  candidate-sent Absent size filled pages m b q z x c = tt
-  candidate-sent Open size filled pages m b q z x c = (c .0, confirmed-after (listed d) (c .1))
-  candidate-sent Done size filled pages m b q z x c = complete-same modesOf d size filled pages m c nothing Ready tt
-
-  candidate-sure : (c : Candidate) (size : Size) (filled pages : ℕ) (m : Memory) (t : Standing) (q z : ℕ) (a : FairAnswer) → Gives modesOf d a q →
-      CandidateIs modesOf d c size filled pages m t q (underWay a) z →
-      CandidateIs modesOf d c size filled pages m Ready (movesOn (listed d) (isPage a) q) (sure a) z
-  candidate-sure Absent size filled pages m t q z a g c = tt
-  candidate-sure Open size filled pages m t q z a g c = (c .0, confirmed-before (listed d) a (λ p e. page-given a q p g e) (c .1))
-  candidate-sure Done size filled pages m t q z a g c =
-      record {
-        same-identity = c .same-identity;
-        same-list = c .same-list;
-        same-modes = c .same-modes;
-        sum = c .sum;
-        settled = tt;
-      }
-
-  sent-dock : (q : ℕ) (b : Bool) → stepOf (dockAt modesOf d q (Sending b)) (decideSent (dockAt modesOf d q (Sending b)) (Sending b)) 0 .dock ≡ dockAt modesOf d (movesOn (listed d) b q) Ready
-  unfolding stepOf decideSent
-  sent-dock q b = moved-at modesOf d b q (Sending b)
-
-  failed-dock : (q : ℕ) (b : Bool) → stepOf (dockAt modesOf d q (Sending b)) (decideFailed (dockAt modesOf d q (Sending b)) (Sending b)) 0 .dock ≡ dockAt modesOf d q Ready
-  unfolding stepOf decideFailed
-  failed-dock q b = moved-at modesOf d false q (Sending b) ∙ ap (λ (n : ℕ). dockAt modesOf d n Ready) (moves-other (listed d) q)
-
-  same-sending : (b c : Bool) → (Sending b ≡ Sending c) ⊎ (Sending b ≡ Ready) → b ≡ c
-  same-sending true true e = refl
-  same-sending false false e = refl
-  same-sending true false (inl e) = cc
-  same-sending false true (inl e) = cc
-  same-sending true false (inr e) = cc
-  same-sending false true (inr e) = cc
-
-  pub sent-ok : (l : Laptop) (m : Memory) (way : Way) (q : ℕ) (t : Standing) (v : Carried) (z : ℕ) → Inv modesOf d old l m way q t v z →
-      Reached modesOf d old (hearsSent t (fateOf modesOf d v) (systemOf modesOf d old l m way q t v z))
-  sent-ok l m way q Ready v z i = same-reached modesOf d old l m way q Ready v z i
-  sent-ok l m way q (Asking r) v z i = same-reached modesOf d old l m way q (Asking r) v z i
-  sent-ok l m way q (Sending b) nothing z i = same-reached modesOf d old l m way q (Sending b) nothing z i
-  sent-ok l m way q (Sending b) (sure a) z i = same-reached modesOf d old l m way q (Sending b) (sure a) z i
-  sent-ok l m way q (Sending b) (underWay a) z i =
-      let same : b ≡ isPage a = same-sending b (isPage a) (i .fate-fits .2) in
-      reached modesOf d old _ (movesOn (listed d) (isPage a) q) Ready (sure a) refl
-      (sent-dock q b ∙ ap (λ (x : Bool). dockAt modesOf d (movesOn (listed d) x q) Ready) same)
-      (moves modesOf d old l m way way q (movesOn (listed d) (isPage a) q) (Sending b) Ready (underWay a) (sure a) z z i
-      (candidate-sure (l .candidate) (l .gathered) (l .filled) (l .pages) m (Sending b) q z a (i .fate-fits .0) (i .candidate-is)) (i .way-fits)
-      (gave a q (i .fate-fits .0), i .fate-fits .1, refl) tt)
-  sent-ok l m way q (Sending b) (arrived x) z i =
-      reached modesOf d old _ (movesOn (listed d) b q) Ready nothing refl (sent-dock q b)
-      (moves modesOf d old l m way way q (movesOn (listed d) b q) (Sending b) Ready (arrived x) nothing z z i
-      (candidate-sent (l .candidate) (l .gathered) (l .filled) (l .pages) m b q z x (i .candidate-is)) (i .way-fits) tt tt)
-
-  -- or "failed"
-  abbrev failedAs : Carried → Carried
-  failedAs nothing = nothing
-  failedAs (underWay a) = underWay a
-  failedAs (sure a) = sure a
-  failedAs (arrived b) = nothing
-
-  failed-fate : (v : Carried) → fateOnFailure (fateOf modesOf d v) ≡ fateOf modesOf d (failedAs v)
-  failed-fate nothing = refl
-  failed-fate (underWay a) = refl
-  failed-fate (sure a) = refl
-  failed-fate (arrived b) = refl
-
-  failed-quiet : (v : Carried) → NoSurePage v → Quiet Ready (failedAs v)
-  failed-quiet nothing n = tt
-  failed-quiet (underWay a) n = tt
-  failed-quiet (sure a) n = n
-  failed-quiet (arrived b) n = tt
-
-  failed-fits : (b : Bool) (q : ℕ) (v : Carried) → FateFits modesOf d (Sending b) q v → FateFits modesOf d Ready q (failedAs v)
-  failed-fits b q nothing f = tt
-  failed-fits b q (underWay a) f = (f .0, f .1, inr refl)
-  failed-fits b q (sure a) f = (f .0, f .1, refl)
-  failed-fits b q (arrived x) f = tt
-
-  pub failed-ok : (l : Laptop) (m : Memory) (way : Way) (q : ℕ) (t : Standing) (v : Carried) (z : ℕ) → Inv modesOf d old l m way q t v z →
-      Reached modesOf d old (hearsFailed t (systemOf modesOf d old l m way q t v z))
-  failed-ok l m way q Ready v z i = same-reached modesOf d old l m way q Ready v z i
-  failed-ok l m way q (Asking r) v z i = same-reached modesOf d old l m way q (Asking r) v z i
-  failed-ok l m way q (Sending b) v z i =
-      let n = sending-sure modesOf d b q v (i .fate-fits) in
-      reached modesOf d old _ q Ready (failedAs v) (failed-fate v) (failed-dock q b)
-      (subst (λ (x : ℕ). Inv modesOf d old l m way q Ready (failedAs v) x) (sym (lost-is modesOf d v z))
-      (moves modesOf d old l m way way q q (Sending b) Ready v (failedAs v) z (lostThen v z) i
-      (candidate-replaced modesOf d (l .gathered) (l .filled) (l .pages) m (l .candidate) (Sending b) q v z (i .candidate-is) Ready q (failedAs v)
-      (failed-quiet v n) n (λ e. refl)) (i .way-fits) (failed-fits b q v (i .fate-fits)) tt))

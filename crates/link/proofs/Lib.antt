@@ -1,18 +1,20 @@
--- Demand 3, a file for each topic.
+-- Demand 3, a file for each topic, in the order in which they build on each other.
 pub mod Bytes
 pub mod Course
-pub mod Invariant
-pub mod AtDock
-pub mod AtLaptop
-pub mod Hears
 pub mod Arrival
-pub mod Filling
+pub mod Invariant
+pub mod Offering
+pub mod AtDock
+pub mod Confirming
+pub mod AtLaptop
 pub mod Awaited
-pub mod Landed
+pub mod Filling
+pub mod Hears
 pub mod Landing
+pub mod PageLanding
 pub mod ModesLanding
 pub mod OtherLanding
-pub mod PageLanding
+pub mod Landed
 pub mod Arriving
 pub mod Runs
 pub mod Laws

@@ -28,7 +28,8 @@ use Rattle.link.specs.Demand.{Meets, whole, heldIn, heldWords, onWay, ar
 use Rattle.link.specs.Joined.{Way, clear, request, Fate, gone, coming, confirmed, came, System, Event, calls, loseRequest, reach, answer, loseAnswer, arrive, sent, failed}
 use Rattle.link.specs.Link.{called, reaches, answeredBy, isFair, answers, hearsSent, hearsFailed, losesAnswer, step, run}
 use Rattle.link.proofs.Arriving.{arrive-ok, answer-read, timely-landed, sure-landed}
-use Rattle.link.proofs.AtDock.{Inv, lose-request, reach-ok, answer-ok, lose-ok, sent-ok, failed-ok}
+use Rattle.link.proofs.AtDock.{Inv, lose-request, reach-ok, answer-ok}
+use Rattle.link.proofs.Confirming.{lose-ok, sent-ok, failed-ok}
 use Rattle.link.proofs.AtLaptop.{Decides, stays, asks-identity, asks-other, drops, ends, next-is, start-over-is, drop-is, enter-is, exit-is, timer-is, error-is, call-ok}
 use Rattle.link.proofs.Course.{Carried, nothing, underWay, sure, arrived}
 use Rattle.link.proofs.Invariant.{messageOf, fateOf, systemOf, Reached}

@@ -31,8 +31,8 @@ use Rattle.dock.specs.declared.Dock.{Dock}
 use Rattle.dock.specs.declared.Standing.{Standing}
 use Rattle.laptop.specs.Calls.{refusedBy, turnedTo}
 use Rattle.laptop.specs.Catalogue.{Entry, modesAt, entriesFrom, heldList}
-use Rattle.laptop.specs.Answers.{Gathering, gathering, filling, turnedDown, copied}
-use Rattle.laptop.specs.Hearing.{Result, only, fits, isOpen, isLatePage, withGathering, withFilling, hearAnswer, heard}
+use Rattle.hearing.specs.Answers.{Gathering, gathering, filling, turnedDown, copied}
+use Rattle.hearing.specs.Hearing.{Result, only, fits, isOpen, isLatePage, withGathering, withFilling, hearAnswer, heard}
 use Rattle.laptop.specs.Marks.{marksAfter}
 use Rattle.laptop.specs.Owner.{isAbsent, discover}
 use Rattle.laptop.specs.State.{Memory, memory, gatheredList, ended, dropped, opened, withPages, gatheredTo, filledTo, published, identityRequest}

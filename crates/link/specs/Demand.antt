@@ -19,7 +19,7 @@ use Rattle.dock.specs.Sound.{Sound}
 use Rattle.dock.specs.declared.Dock.{Dock}
 use Rattle.dock.specs.declared.Standing.the-variants.{Ready}
 use Rattle.laptop.specs.Catalogue.{Entry, Catalogue, catalogueIn}
-use Rattle.laptop.specs.Hearing.{fits, isLatePage}
+use Rattle.hearing.specs.Hearing.{fits, isLatePage}
 use Rattle.laptop.specs.Owner.{isAbsent, requestMessage}
 use Rattle.laptop.specs.State.{gatheredList, identityRequest}
 use Rattle.laptop.specs.declared.Candidate.the-variants.{Done}

@@ -17,7 +17,8 @@ use Rattle.messages.specs.declared.Head.{Head}
 use Rattle.messages.specs.declared.Reading.{Reading}
 use Rattle.messages.proofs.Laws.{answer-message, read-count}
 use Rattle.pages.specs.Pages.{halves}
-use Rattle.hearing.specs.Answers.{Opening, Gathering, Filling, Marking, isWhole, hearIdentity, sixHalves, hearSvids, hearModes, hearMode}
+use Rattle.gathering.specs.Gathering.{Opening, Gathering, hearIdentity, sixHalves, hearSvids}
+use Rattle.hearing.specs.Answers.{Filling, Marking, isWhole, hearModes, hearMode}
 use Rattle.laptop.specs.Calls.{refusedBy, shortRuns}
 use Rattle.hearing.specs.Hearing.{Result, only, hearRequest, fits, hearUnawaited, withOpening, withGathering, withFilling, withMarking, settledStep, settledList, settledRun, settled, hearAnswer, hear, heard}
 use Rattle.hearing.proofs.Copying.{Published, settle-not, settle-whole}

@@ -14,7 +14,7 @@ use Rattle.laptop.specs.Catalogue.{heldList}
 use Rattle.laptop.specs.Marks.{placeOf, named, markedBy, marksAfter}
 use Rattle.laptop.specs.State.{ended, dropped, filledTo}
 use Rattle.laptop.specs.declared.Laptop.{Laptop}
-use Rattle.laptop.specs.declared.Told.the-variants.{Nothing}
+use Rattle.laptop.specs.declared.Told.the-variants.{Nothing, Nak, Busy}
 
 -- Modes
 module _ (l : Laptop) (kind : ℕ) (words modes run : List ℕ) where
@@ -102,3 +102,12 @@ module _ (l : Laptop) (kind : ℕ) (r : Request) (heldSvids entered : List ℕ) 
           marks-set list entered (r .svid) (r .command) (r .position) (omega (arith, found)) ∙
           ap (λ (x : List ℕ). marksAfter x entered (r .svid) (r .command) (r .position)) held ∙ acknowledged e .1,
     )
+
+-- an enter or exit that is turned down
+pub down-nak : (kind : ℕ) (r : Request) → kind ≡ 2 → Nak r ≡ turnedDown kind r
+unfolding turnedDown
+down-nak kind r e = rw e
+
+pub down-other : (kind : ℕ) (r : Request) → (kind ≡ 2 → ⊥) → Busy r ≡ turnedDown kind r
+unfolding turnedDown
+down-other kind r e = rw (ne-eqb _ _ e)

@@ -10,7 +10,8 @@ use Rattle.messages.specs.Reading.{Outcome, accepted, refused}
 use Rattle.messages.specs.Requests.{identityCommand, svidsCommand, modesCommand, attentionCommand, requestOf, sameRequest}
 use Rattle.messages.specs.declared.Head.{Head}
 use Rattle.pages.specs.Pages.{halves}
-use Rattle.hearing.specs.Answers.{hearIdentity, hearSvids, hearModes, hearMode, isWhole, copied, Opening, Gathering, Filling, Marking}
+use Rattle.gathering.specs.Gathering.{hearIdentity, hearSvids, Opening, Gathering}
+use Rattle.hearing.specs.Answers.{hearModes, hearMode, isWhole, copied, Filling, Marking}
 use Rattle.laptop.specs.Calls.{refusedBy, turnedTo, shortRuns}
 use Rattle.laptop.specs.State.{Memory, memory, dropped, published}
 use Rattle.laptop.specs.declared.Candidate.{Candidate}

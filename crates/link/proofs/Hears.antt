@@ -22,7 +22,8 @@ use Rattle.pages.specs.Taking.{verdict}
 use Rattle.pages.specs.declared.taking.Verdict.{Verdict}
 use Rattle.pages.specs.declared.taking.Verdict.the-variants.{Bad, Repeat, More, Ends}
 use Rattle.dock.specs.Dock.{reply}
-use Rattle.hearing.specs.Answers.{Opening, Gathering, gathering, Filling, filling, Marking, hearIdentity, unlessLast, takeAs, takePage, hearSvids, storeModes, hearModes, turnedDown, hearMode, isDone, isWhole, copied}
+use Rattle.gathering.specs.Gathering.{Opening, Gathering, gathering, hearIdentity, unlessLast, takeAs, takePage, hearSvids}
+use Rattle.hearing.specs.Answers.{Filling, filling, Marking, storeModes, hearModes, turnedDown, hearMode, isDone, isWhole, copied}
 use Rattle.laptop.specs.Calls.{refusedBy, turnedTo, shortRuns}
 use Rattle.laptop.specs.Catalogue.{heldList}
 use Rattle.hearing.specs.Hearing.{Result, only, fits, isLatePage, hearUnawaited, withOpening, withGathering, withFilling, withMarking, settledStep, settledList, settledRun, settled, hearAnswer, hear, heard}
@@ -37,7 +38,7 @@ use Rattle.laptop.specs.declared.Told.{Told}
 use Rattle.laptop.specs.declared.Told.the-variants.{Nothing as Told·Nothing}
 use Rattle.laptop.specs.declared.Wait.{Wait}
 use Rattle.laptop.specs.declared.Wait.the-variants.{Nothing, Answer}
-use Rattle.hearing.proofs.Listing.{counted-more, take-repeat, take-repeat-last, take-full, take-full-last, take-ending}
+use Rattle.gathering.proofs.Listing.{counted-more, take-repeat, take-repeat-last, take-full, take-full-last, take-ending}
 use Rattle.laptop_laws.specs.WellFormed.{Lent}
 
 not-short : (m : Memory) → Lent m → shortRuns (length (m .run)) (length (m .heldRun)) ≡ false

@@ -31,7 +31,8 @@ use Rattle.dock.specs.declared.Dock.{Dock}
 use Rattle.dock.specs.declared.Standing.{Standing}
 use Rattle.laptop.specs.Calls.{refusedBy, turnedTo}
 use Rattle.laptop.specs.Catalogue.{Entry, modesAt, entriesFrom, heldList}
-use Rattle.hearing.specs.Answers.{Gathering, gathering, filling, turnedDown, copied}
+use Rattle.gathering.specs.Gathering.{Gathering, gathering}
+use Rattle.hearing.specs.Answers.{filling, turnedDown, copied}
 use Rattle.hearing.specs.Hearing.{Result, only, fits, isOpen, isLatePage, withGathering, withFilling, hearAnswer, heard}
 use Rattle.laptop.specs.Marks.{marksAfter}
 use Rattle.laptop.specs.Owner.{isAbsent, discover}

@@ -1,5 +1,5 @@
 -- `turned_down` meets its promise.
-use Rattle.hearing.proofs.Listing.{down-nak, down-other}
+use Rattle.hearing.proofs.Storing.{down-nak, down-other}
 use Rattle.hearing.proofs.answers.turned_down.Statement.{statement}
 use Rattle.hearing.proofs.answers.turned_down.Tie as tie
 

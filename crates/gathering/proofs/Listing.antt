@@ -5,14 +5,13 @@ use Prim.Native.Nat.{ℕ, _+_, _/_, _%_, _<_, _≤_}
 use lib.ListN.{length, getD, take, replicate}
 use lib.Seq.{sets}
 use borrow.Author.Tests.{eq-eqb, ne-eqb, le-leb, lt-leb, lt-ltb, le-ltb}
-use Rattle.messages.specs.declared.request.Request.{Request}
-use Rattle.hearing.specs.Answers.{hearIdentity, Gathering, gathering, sixHalves, turnedDown, unlessLast, takeAs, takePage, hearSvids}
+use Rattle.gathering.specs.Gathering.{hearIdentity, Gathering, gathering, sixHalves, unlessLast, takeAs, takePage, hearSvids}
 use Rattle.laptop.specs.Calls.{refusedBy, turnedTo}
 use Rattle.laptop.specs.State.{gatheredList, ended, dropped, opened, withPages, counted, gatheredTo}
 use Rattle.laptop.specs.declared.Candidate.the-variants.{Open, Done}
 use Rattle.laptop.specs.declared.Laptop.{Laptop}
 use Rattle.laptop.specs.declared.Step.{Step}
-use Rattle.laptop.specs.declared.Told.the-variants.{Nothing, Nak, Busy}
+use Rattle.laptop.specs.declared.Told.the-variants.{Nothing}
 use Rattle.pages.specs.Taking.{verdict}
 use Rattle.pages.specs.declared.taking.Verdict.{Verdict}
 use Rattle.pages.specs.declared.taking.Verdict.the-variants.{Bad, Repeat, More, Ends}
@@ -106,15 +105,6 @@ module _ (l : Laptop) (kind : ℕ) (values svids : List ℕ) where
       hearSvids l kind values svids ≡ gathering (refusedBy 8 (dropped l)) svids
   unfolding hearSvids
   svids-void a b e = rw (ne-eqb _ _ a, ne-eqb _ _ b, ne-eqb _ _ e)
-
--- an enter or exit that is turned down
-pub down-nak : (kind : ℕ) (r : Request) → kind ≡ 2 → Nak r ≡ turnedDown kind r
-unfolding turnedDown
-down-nak kind r e = rw e
-
-pub down-other : (kind : ℕ) (r : Request) → (kind ≡ 2 → ⊥) → Busy r ≡ turnedDown kind r
-unfolding turnedDown
-down-other kind r e = rw (ne-eqb _ _ e)
 
 -- six objects are twelve values
 pub six-values : (o : List ℕ) (a b c d e f g h i j k m : ℕ) → a ≡ getD o 0 0 / 65536 → b ≡ getD o 0 0 % 65536 → c ≡ getD o 1 0 / 65536 →

@@ -3,11 +3,11 @@ use Prim.Native.Nat.{_*_}
 use lib.ListN.{take}
 use Rattle.laptop.specs.Calls.{refusedBy, turnedTo}
 use Rattle.laptop.specs.declared.Told.the-variants.{Nothing}
-use Rattle.hearing.proofs.Listing.{svids-page, svids-busy, svids-empty, svids-void, parts}
+use Rattle.gathering.proofs.Listing.{svids-page, svids-busy, svids-empty, svids-void, parts}
 -- `hear_svids` meets its promise.
 use borrow.Author.Needs.{needs}
-use Rattle.hearing.proofs.gathering.hear_svids.Statement.{statement}
-use Rattle.hearing.proofs.gathering.hear_svids.Tie as tie
+use Rattle.gathering.proofs.gathering.hear_svids.Statement.{statement}
+use Rattle.gathering.proofs.gathering.hear_svids.Tie as tie
 
 values-of-requires : tie.Need-values-of-requires
 values-of-requires c κs = search needs

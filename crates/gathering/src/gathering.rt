@@ -3,8 +3,8 @@ ghost use mathlib.Core.Path.{_≡_};
 ghost use Prim.Native.Nat.{_+_, _*_, _/_, _%_, _≤_};
 ghost use lib.ListN.{length, take};
 ghost use lib.Seq.{sets};
-ghost use Rattle.hearing.specs.Answers.{hearIdentity, sixHalves, hearSvids};
-ghost use Rattle.hearing.specs.Answers.{takePage as Answers·takePage};
+ghost use Rattle.gathering.specs.Gathering.{hearIdentity, sixHalves, hearSvids};
+ghost use Rattle.gathering.specs.Gathering.{takePage as Gathering·takePage};
 ghost use Rattle.laptop.specs.State.{gatheredTo};
 ghost use Rattle.laptop.specs.State.{opened as State·opened};
 ghost use Rattle.laptop.specs.State.{counted as State·counted};
@@ -37,7 +37,7 @@ fn opened(objects: u8, laptop: Laptop) -> Laptop
 }
 
 // An ACK opens an empty list; NAK or BUSY leaves no candidate.
-pub(crate) fn hear_identity(
+pub fn hear_identity(
     laptop: Laptop,
     kind: u8,
     count: u8,
@@ -127,7 +127,7 @@ fn put_values(svids: &mut [u16; 72], n: usize, values: &[u16])
 
 // A page is taken: what it adds is put behind what is gathered, once it is known not to be refused.
 fn take_page(laptop: Laptop, values: &[u16], svids: &mut [u16; 72]) -> Step
-    ensures { λ r. ⌜ (r ≡ (Answers·takePage laptop (now (svids .entry)) (now (values .entry))) .step) × (now (svids .exit) ≡ (Answers·takePage laptop (now (svids .entry)) (now (values .entry))) .svids) ⌝ }
+    ensures { λ r. ⌜ (r ≡ (Gathering·takePage laptop (now (svids .entry)) (now (values .entry))) .step) × (now (svids .exit) ≡ (Gathering·takePage laptop (now (svids .entry)) (now (values .entry))) .svids) ⌝ }
 {
     let list = first_svids(svids, laptop.gathered.count as usize);
     let n = list.len();
@@ -160,7 +160,7 @@ fn take_page(laptop: Laptop, values: &[u16], svids: &mut [u16; 72]) -> Step
 }
 
 // An ACK is a page; a NAK with nothing gathered makes an empty list, later it is 8; BUSY changes nothing more.
-pub(crate) fn hear_svids(
+pub fn hear_svids(
     laptop: Laptop,
     kind: u8,
     count: u8,

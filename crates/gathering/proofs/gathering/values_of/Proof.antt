@@ -1,8 +1,8 @@
 -- `values_of` meets its promise.
-use Rattle.hearing.proofs.Listing.{six-values}
+use Rattle.gathering.proofs.Listing.{six-values}
 use borrow.Author.Needs.{needs}
-use Rattle.hearing.proofs.gathering.values_of.Statement.{statement}
-use Rattle.hearing.proofs.gathering.values_of.Tie as tie
+use Rattle.gathering.proofs.gathering.values_of.Statement.{statement}
+use Rattle.gathering.proofs.gathering.values_of.Tie as tie
 
 array-read-high-half : tie.Need-array-read-high-half
 array-read-high-half c = search needs

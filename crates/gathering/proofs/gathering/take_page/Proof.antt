@@ -6,10 +6,10 @@ use lib.Seq.{sets, length-take-le}
 use Rattle.pages.proofs.Sizes.{more-fits, ends-fits}
 use Rattle.laptop.specs.Calls.{refusedBy, turnedTo}
 use Rattle.laptop.specs.declared.Told.the-variants.{Nothing}
-use Rattle.hearing.proofs.Listing.{take-bad, take-repeat, take-repeat-last, take-full, take-full-last, take-ending, parts}
+use Rattle.gathering.proofs.Listing.{take-bad, take-repeat, take-repeat-last, take-full, take-full-last, take-ending, parts}
 use borrow.Author.Needs.{needs}
-use Rattle.hearing.proofs.gathering.take_page.Statement.{statement}
-use Rattle.hearing.proofs.gathering.take_page.Tie as tie
+use Rattle.gathering.proofs.gathering.take_page.Statement.{statement}
+use Rattle.gathering.proofs.gathering.take_page.Tie as tie
 
 cast-first-svids : tie.Need-cast-first-svids
 cast-first-svids c = search needs

@@ -1,8 +1,8 @@
 -- `counted` meets its promise.
-use Rattle.hearing.proofs.Listing.{counted-more, counted-most}
+use Rattle.gathering.proofs.Listing.{counted-more, counted-most}
 use borrow.Author.Needs.{needs}
-use Rattle.hearing.proofs.gathering.counted.Statement.{statement}
-use Rattle.hearing.proofs.gathering.counted.Tie as tie
+use Rattle.gathering.proofs.gathering.counted.Statement.{statement}
+use Rattle.gathering.proofs.gathering.counted.Tie as tie
 
 add-t4 : tie.Need-add-t4
 add-t4 c = search needs

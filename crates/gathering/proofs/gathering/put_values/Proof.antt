@@ -6,8 +6,8 @@ use native.Mathlib.Omega.{arith}
 use lib.ListN.{length, take, set, getD}
 use lib.Seq.{sets, take-all}
 use Rattle.laws.proofs.Stores.{sets-next}
-use Rattle.hearing.proofs.gathering.put_values.Statement.{statement}
-use Rattle.hearing.proofs.gathering.put_values.Tie as tie
+use Rattle.gathering.proofs.gathering.put_values.Statement.{statement}
+use Rattle.gathering.proofs.gathering.put_values.Tie as tie
 
 abbrev Inv-loop : tie.InvT-loop
 Inv-loop svids₀ n values i₀ svids i = (i ≤ length values) × (svids ≡ sets svids₀ n (take i values))

@@ -2,10 +2,10 @@
 use mathlib.Core.Path.{ap, _∙_}
 use Rattle.laptop.specs.Calls.{turnedTo}
 use Rattle.laptop.specs.declared.Told.the-variants.{Nothing}
-use Rattle.hearing.proofs.Listing.{identity-ack, identity-other}
+use Rattle.gathering.proofs.Listing.{identity-ack, identity-other}
 use borrow.Author.Needs.{needs}
-use Rattle.hearing.proofs.gathering.hear_identity.Statement.{statement}
-use Rattle.hearing.proofs.gathering.hear_identity.Tie as tie
+use Rattle.gathering.proofs.gathering.hear_identity.Statement.{statement}
+use Rattle.gathering.proofs.gathering.hear_identity.Tie as tie
 
 dropped-requires : tie.Need-dropped-requires
 dropped-requires c κs = search needs

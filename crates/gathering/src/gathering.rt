@@ -8,9 +8,9 @@ ghost use Rattle.gathering.specs.Gathering.{takePage as Gathering·takeP
 ghost use Rattle.laptop.specs.State.{gatheredTo};
 ghost use Rattle.laptop.specs.State.{opened as State·opened};
 ghost use Rattle.laptop.specs.State.{counted as State·counted};
+use crate::MOST_PAGES;
 use laptop::Candidate;
 use laptop::Laptop;
-use crate::MOST_PAGES;
 use laptop::Size;
 use laptop::Step;
 use laptop::Told;

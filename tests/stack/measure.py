@@ -10,8 +10,11 @@ MOST = 1024
 LIBRARY = "target/staticlib/libcontroller.a"
 EXPORTED = re.compile(r'#\[no_mangle\]\s+pub extern "C" fn (\w+)')
 PUBLIC = re.compile(r"^pub (?:use \w+::|fn )([a-z]\w*)", re.MULTILINE)
-# No call of 01: the list that `report` and `write_catalogue` read, in whose frames it is counted.
-PARTS = {"laptop::held_list"}
+# No call of 01: the list that `report` and `write_catalogue` read, and what `hearing::message` is made of, in whose frames they are counted.
+PARTS = {
+    f"laptop::{name}"
+    for name in ("held_list", "place_of", "set_at", "marked", "unmarked", "refused", "turned", "ended", "dropped", "short_runs")
+}
 
 
 def sources(root, crate):
@@ -19,7 +22,7 @@ def sources(root, crate):
 
 
 def public_calls(root):
-    for crate in ("dock", "laptop", "catalogue"):
+    for crate in ("dock", "laptop", "hearing", "catalogue"):
         for name in PUBLIC.findall((root / "crates" / crate / "src/lib.rt").read_text()):
             yield f"{crate}::{name}"
 

@@ -85,7 +85,7 @@ pub fn hear(owner: Owner, message: Message) -> Turn {
     let mut entered = owner.entered;
     let mut run = owner.run;
     let mut held_run = owner.held_run;
-    let step = laptop::message(
+    let step = hearing::message(
         owner.laptop,
         first_bytes(&bytes, message.length),
         &mut svids,

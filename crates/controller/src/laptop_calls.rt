@@ -26,7 +26,7 @@ pub extern "C" fn laptop_message(
     handed: &mut [u32; 7],
 ) -> u8 {
     let before = *state;
-    let step = laptop::message(
+    let step = hearing::message(
         laptop_from(before),
         bytes,
         svids,

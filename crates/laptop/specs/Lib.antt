@@ -1,8 +1,6 @@
--- Document 01, "The laptop end", a file for each part.
-pub mod Answers
+-- Document 01, "The laptop end", a file for each part; `hearing` has what becomes of a message.
 pub mod Calls
 pub mod Catalogue
-pub mod Hearing
 pub mod Marks
 pub mod Owner
 pub mod State

@@ -1,21 +1,19 @@
-// The laptop end (Initiator): it asks, gathers a candidate and holds a catalogue. Document 01, "The laptop end".
+// The laptop end (Initiator): its state, the owner's calls and the timers. Document 01, "The laptop end". `hearing` has the message that arrives.
 //
 // What is small goes by value in a `Laptop`. Lent beside it, in arrays that every call leaves as its promise says: the candidate's SVIDs, the
 // number of modes of each and its identity objects; the same of the held catalogue; the entered modes of each held SVID, a bit for each
 // position; and the two runs of mode words.
-mod answers;
-mod gathering;
-mod hearing;
 mod marks;
 mod modes;
 mod owner;
 mod places;
-mod publishing;
 mod settling;
 mod timers;
 
-pub use hearing::message;
+pub use marks::marked;
 pub use marks::report;
+pub use marks::set_at;
+pub use marks::unmarked;
 use messages::Request;
 pub use modes::enter;
 pub use modes::exit;
@@ -23,7 +21,13 @@ pub use owner::drop;
 pub use owner::next;
 pub use owner::start_over;
 pub use places::held_list;
+pub use places::place_of;
+pub use settling::dropped;
+pub use settling::ended;
 pub use settling::fresh;
+pub use settling::refused;
+pub use settling::short_runs;
+pub use settling::turned;
 pub use timers::entry_timer;
 pub use timers::exit_timer;
 pub use timers::protocol_error;
@@ -94,5 +98,3 @@ pub struct Step {
 pub const RUN_WORDS: usize = 432;
 
 pub const MODES_EACH: usize = 6;
-
-const MOST_PAGES: u8 = 200;

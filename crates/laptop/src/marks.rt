@@ -26,7 +26,7 @@ pub(crate) fn named(position: u8) -> u8
 }
 
 // The set of a place, or none past the end.
-pub(crate) fn set_at(entered: &[u8], place: usize) -> u8
+pub fn set_at(entered: &[u8], place: usize) -> u8
     ensures { λ r. ⌜ r ≡ getD (now (entered .entry)) place 0 ⌝ }
 {
     if place < entered.len() {
@@ -36,13 +36,13 @@ pub(crate) fn set_at(entered: &[u8], place: usize) -> u8
     }
 }
 
-pub(crate) fn marked(set: u8, position: u8) -> u8
+pub fn marked(set: u8, position: u8) -> u8
     ensures { λ r. ⌜ r ≡ bitOr set (Marks·named position) ⌝ }
 {
     set | named(position)
 }
 
-pub(crate) fn unmarked(set: u8, position: u8) -> u8
+pub fn unmarked(set: u8, position: u8) -> u8
     ensures { λ r. ⌜ r ≡ bitAnd set (63 - Marks·named position) ⌝ }
 {
     set & (63 - named(position))

@@ -16,7 +16,7 @@ pub fn held_list(held: Held, held_svids: &[u16]) -> &[u16]
 }
 
 // The place of the SVID, or the list's length where it is not in it.
-pub(crate) fn place_of(svid: u16, list: &[u16]) -> usize
+pub fn place_of(svid: u16, list: &[u16]) -> usize
     ensures { λ r. ⌜ r ≡ placeOf svid (now (list .entry)) ⌝ }
 {
     let mut i = 0;

@@ -32,7 +32,7 @@ pub fn fresh(entered: &mut [u8; 72]) -> Laptop
     }
 }
 
-pub(crate) fn refused(number: u8, laptop: Laptop) -> Step
+pub fn refused(number: u8, laptop: Laptop) -> Step
     ensures { λ r. ⌜ r ≡ refusedBy number laptop ⌝ }
 {
     Step {
@@ -43,7 +43,7 @@ pub(crate) fn refused(number: u8, laptop: Laptop) -> Step
     }
 }
 
-pub(crate) fn turned(told: Told, laptop: Laptop) -> Step
+pub fn turned(told: Told, laptop: Laptop) -> Step
     ensures { λ r. ⌜ r ≡ turnedTo told laptop ⌝ }
 {
     Step {
@@ -54,7 +54,7 @@ pub(crate) fn turned(told: Told, laptop: Laptop) -> Step
     }
 }
 
-pub(crate) fn ended(laptop: Laptop) -> Laptop
+pub fn ended(laptop: Laptop) -> Laptop
     ensures { λ r. ⌜ r ≡ State·ended laptop ⌝ }
 {
     Laptop {
@@ -64,7 +64,7 @@ pub(crate) fn ended(laptop: Laptop) -> Laptop
 }
 
 // No candidate, and nothing is awaited.
-pub(crate) fn dropped(laptop: Laptop) -> Laptop
+pub fn dropped(laptop: Laptop) -> Laptop
     ensures { λ r. ⌜ r ≡ State·dropped laptop ⌝ }
 {
     Laptop {
@@ -74,7 +74,7 @@ pub(crate) fn dropped(laptop: Laptop) -> Laptop
     }
 }
 
-pub(crate) fn short_runs(run: &[u32], held_run: &[u32]) -> bool
+pub fn short_runs(run: &[u32], held_run: &[u32]) -> bool
     ensures { λ r. ⌜ r ≡ shortRuns (length (now (run .entry))) (length (now («held_run» .entry))) ⌝ }
 {
     if run.len() < RUN_WORDS {

@@ -109,7 +109,7 @@ fn hear(
     entered: &mut [u8; 72],
 ) -> Answer {
     let laptop = state.laptop;
-    let step = laptop::message(
+    let step = hearing::message(
         laptop,
         bytes,
         svids,

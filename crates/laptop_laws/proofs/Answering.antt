@@ -26,10 +26,11 @@ use Rattle.pages.specs.declared.taking.Verdict.{Verdict}
 use Rattle.pages.specs.declared.taking.Verdict.the-variants.{Bad, Repeat, More, Ends}
 use Rattle.pages.proofs.Growing.{more-sound, ends-sound}
 use Rattle.pages.proofs.Sizes.{more-fits, ends-fits}
-use Rattle.laptop.specs.Answers.{Gathering, Filling, filling, Marking, hearIdentity, unlessLast, takeAs, takePage, hearSvids, storeModes, hearModes, hearMode, isDone, isWhole, copied}
+use Rattle.gathering.specs.Gathering.{Gathering, hearIdentity, unlessLast, takeAs, takePage, hearSvids}
+use Rattle.hearing.specs.Answers.{Filling, filling, Marking, storeModes, hearModes, hearMode, isDone, isWhole, copied}
 use Rattle.laptop.specs.Catalogue.{heldList}
 use Rattle.laptop.specs.Calls.{refusedBy, turnedTo, shortRuns}
-use Rattle.laptop.specs.Hearing.{Result, hearRequest, fits, isLatePage, hearUnawaited, withOpening, withGathering, withFilling, withMarking, settledStep, settledList, settledRun, settled, hearAnswer, hear, heard}
+use Rattle.hearing.specs.Hearing.{Result, hearRequest, fits, isLatePage, hearUnawaited, withOpening, withGathering, withFilling, withMarking, settledStep, settledList, settledRun, settled, hearAnswer, hear, heard}
 use Rattle.laptop.specs.Marks.{placeOf, named, markedBy, marksAfter}
 use Rattle.laptop.specs.Owner.{anyEntered, isAbsent}
 use Rattle.laptop.specs.State.{Memory, memory, gatheredList, ended, dropped, opened, withPages, counted, published}
@@ -46,7 +47,7 @@ use Rattle.laptop.specs.declared.Wait.the-variants.{Nothing, Answer}
 use Rattle.laptop_laws.proofs.Behind.{sets-behind, below}
 use Rattle.laptop_laws.proofs.Copies.{length-copied}
 use Rattle.laptop_laws.proofs.Keeping.{dropped-formed}
-use Rattle.laptop.proofs.Listing.{counted-more}
+use Rattle.gathering.proofs.Listing.{counted-more}
 use Rattle.laptop.proofs.Marking.{named-most}
 
 sound-nil : soundList [] ≡ true

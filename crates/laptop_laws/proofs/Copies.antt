@@ -8,7 +8,7 @@ use lib.Dec.{leb, ltb}
 use lib.ListN.{length, getD, take, drop, length-take, length-drop}
 use lib.Seq.{ext-getD, getD-take, getD-drop, length-take-le}
 use borrow.Author.Tests.{lt-ltb, leb-true, leb-false}
-use Rattle.laptop.specs.Answers.{isMode, copied}
+use Rattle.hearing.specs.Answers.{isMode, copied}
 use Rattle.laptop.specs.Catalogue.{Entry, modesNumber, modesAt, entriesFrom, catalogueIn}
 use Rattle.laptop.specs.declared.Size.{Size}
 

@@ -14,10 +14,11 @@ use Rattle.pages.specs.Pages.{halves}
 use Rattle.pages.specs.declared.taking.Verdict.{Verdict}
 use Rattle.pages.specs.declared.taking.Verdict.the-variants.{Bad, Repeat, More, Ends}
 use Rattle.laws.specs.Padded.{padded}
-use Rattle.laptop.specs.Answers.{Opening, Marking, Gathering, gathering, Filling, filling, hearIdentity, unlessLast, takeAs, takePage, hearSvids, storeModes, hearModes, hearMode, isWhole}
+use Rattle.gathering.specs.Gathering.{Opening, Gathering, gathering, hearIdentity, unlessLast, takeAs, takePage, hearSvids}
+use Rattle.hearing.specs.Answers.{Marking, Filling, filling, storeModes, hearModes, hearMode, isWhole}
 use Rattle.laptop.specs.Calls.{Decision, refuses, turns, sends, refusedBy, sentBy, stepOf, bufferOf, shortRuns}
 use Rattle.laptop_laws.specs.Done.{Call, message, next, startOver, drop, enter, exit, timer, protocolError, done}
-use Rattle.laptop.specs.Hearing.{Result, fits, withOpening, withGathering, withFilling, withMarking, settledStep, settledList, settledRun, settled, hearAnswer, hear, heard}
+use Rattle.hearing.specs.Hearing.{Result, fits, withOpening, withGathering, withFilling, withMarking, settledStep, settledList, settledRun, settled, hearAnswer, hear, heard}
 use Rattle.laptop.specs.State.{Memory, memory, dropped, counted, published}
 use Rattle.laptop.specs.declared.Laptop.{Laptop}
 use Rattle.laptop.specs.declared.Step.{Step}

@@ -4,7 +4,7 @@ use mathlib.Core.List.{List}
 use lib.ListN.{length}
 use Rattle.messages.specs.Reading.{readOutcome}
 use Rattle.laptop.specs.Calls.{Decision, stepOf, bufferOf}
-use Rattle.laptop.specs.Hearing.{heard}
+use Rattle.hearing.specs.Hearing.{heard}
 use Rattle.laptop.specs.Owner.{decideNext, decideStartOver, decideDrop, decideEnter, decideExit}
 use Rattle.laptop.specs.State.{Memory}
 use Rattle.laptop.specs.Timers.{decideTimer, decideError}

@@ -4,7 +4,7 @@ use mathlib.Core.Path.{_≡_}
 use mathlib.Core.List.{List}
 use Prim.Native.Nat.{ℕ}
 use lib.ListN.{take}
-use Rattle.laptop.specs.Answers.{copied}
+use Rattle.hearing.specs.Answers.{copied}
 use Rattle.laptop.specs.State.{Memory}
 use Rattle.laptop.specs.declared.Held.{Held}
 use Rattle.laptop.specs.declared.Held.the-variants.{Catalogue as Held·Catalogue}

@@ -9,7 +9,7 @@ use lib.ListN.{length, getD, take}
 use Rattle.messages.specs.Requests.{identityCommand, svidsCommand, modesCommand, enterCommand}
 use Rattle.messages.specs.Table.{pdSid}
 use Rattle.pages.specs.Lists.{mostSvids, soundList}
-use Rattle.laptop.specs.Answers.{mostPages}
+use Rattle.gathering.specs.Gathering.{mostPages}
 use Rattle.laptop.specs.Catalogue.{modesEach, runWords}
 use Rattle.laptop.specs.Marks.{allPositions}
 use Rattle.laptop.specs.Owner.{anyEntered, discover, isAbsent}

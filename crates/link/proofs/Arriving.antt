@@ -14,7 +14,7 @@ use Rattle.dock.specs.declared.Dock.{Dock}
 use Rattle.dock.specs.declared.Standing.{Standing}
 use Rattle.dock.specs.declared.Standing.the-variants.{Ready, Asking, Sending}
 use Rattle.laptop.specs.Calls.{isAwaiting}
-use Rattle.laptop.specs.Hearing.{Result, heard}
+use Rattle.hearing.specs.Hearing.{Result, heard}
 use Rattle.laptop.specs.State.{Memory}
 use Rattle.laptop.specs.declared.Laptop.{Laptop}
 use Rattle.laptop.specs.declared.Wait.{Wait}

@@ -9,12 +9,13 @@ use Rattle.pages.specs.Pages.{paired, halves, values, page, isLast, readOff}
 use Rattle.pages.specs.Taking.{sameList, isRepeat, isFull, isEnding, allNew, adds, endingVerdict, verdict}
 use Rattle.dock.specs.Data.{goodIdentity, loaded}
 use Rattle.dock.specs.Dock.{stepOf, bufferOf, asking, sending, decideRequest, decideMessage, givePage, giveIdentity, giveModes, giveOther, bare, decidePolicy, decideAnswer, moved, decideSent, decideFailed}
-use Rattle.laptop.specs.Answers.{hearIdentity, unlessLast, takeAs, takePage, hearSvids, storeModes, hearModes, isWhole, isMode, copied}
+use Rattle.gathering.specs.Gathering.{hearIdentity, unlessLast, takeAs, takePage, hearSvids}
+use Rattle.hearing.specs.Answers.{storeModes, hearModes, isWhole, isMode, copied}
 use Rattle.laptop.specs.Calls.{unless, shortRuns}
 use Rattle.laptop.specs.Calls.{stepOf as Laptop·stepOf}
 use Rattle.laptop.specs.Calls.{bufferOf as Laptop·bufferOf}
 use Rattle.laptop.specs.Catalogue.{modesNumber, modesAt, entriesFrom}
-use Rattle.laptop.specs.Hearing.{isLatePage, hearUnawaited, settledStep, settledList, settledRun, hearAnswer, hear, heard}
+use Rattle.hearing.specs.Hearing.{isLatePage, hearUnawaited, settledStep, settledList, settledRun, hearAnswer, hear, heard}
 use Rattle.laptop.specs.Owner.{ownerRefusal, anyEntered, askingRefusal, asksNext, decideNext}
 use Rattle.laptop.specs.State.{counted}
 use Rattle.laptop.specs.Timers.{over, decideTimer}

@@ -19,17 +19,18 @@ use Rattle.pages.specs.Pages.{halves}
 use Rattle.pages.specs.Taking.{verdict}
 use Rattle.pages.specs.declared.taking.Verdict.the-variants.{Repeat, More, Ends}
 use Rattle.dock.specs.Dock.{reply}
-use Rattle.laptop.specs.Answers.{Gathering, gathering, filling, hearIdentity, takePage, hearSvids, storeModes, hearModes, turnedDown, hearMode, isDone, isWhole, copied}
+use Rattle.gathering.specs.Gathering.{Gathering, gathering, hearIdentity, takePage, hearSvids}
+use Rattle.hearing.specs.Answers.{filling, storeModes, hearModes, turnedDown, hearMode, isDone, isWhole, copied}
 use Rattle.laptop.specs.Calls.{refusedBy, turnedTo, shortRuns}
 use Rattle.laptop.specs.Catalogue.{heldList}
-use Rattle.laptop.specs.Hearing.{Result, only, fits, isLatePage, hearUnawaited, withGathering, withFilling, settledStep, settledList, settledRun, settled, hearAnswer, hear, heard}
+use Rattle.hearing.specs.Hearing.{Result, only, fits, isLatePage, hearUnawaited, withGathering, withFilling, settledStep, settledList, settledRun, settled, hearAnswer, hear, heard}
 use Rattle.laptop.specs.Marks.{marksAfter}
 use Rattle.laptop.specs.Owner.{discover}
 use Rattle.laptop.specs.State.{Memory, memory, gatheredList, ended, dropped, opened, withPages, gatheredTo, filledTo, published, identityRequest}
 use Rattle.laptop.specs.declared.Candidate.the-variants.{Absent, Open, Done}
 use Rattle.laptop.specs.declared.Laptop.{Laptop}
 use Rattle.laptop.specs.declared.Told.the-variants.{Nothing as Told·Nothing}
-use Rattle.laptop.proofs.Listing.{counted-more, take-repeat, take-repeat-last, take-full, take-full-last, take-ending}
+use Rattle.gathering.proofs.Listing.{counted-more, take-repeat, take-repeat-last, take-full, take-full-last, take-ending}
 use Rattle.laptop_laws.specs.WellFormed.{Lent}
 
 not-short : (m : Memory) → Lent m → shortRuns (length (m .run)) (length (m .heldRun)) ≡ false

@@ -10,7 +10,7 @@ use Rattle.messages.specs.Requests.{requestOf}
 use Rattle.dock.specs.Data.{listed}
 use Rattle.dock.specs.declared.Dock.{Dock}
 use Rattle.dock.specs.declared.Standing.{Standing}
-use Rattle.laptop.specs.Hearing.{fits, isLatePage, hearAnswer, heard}
+use Rattle.hearing.specs.Hearing.{fits, isLatePage, hearAnswer, heard}
 use Rattle.laptop.specs.State.{Memory}
 use Rattle.laptop.specs.declared.Laptop.{Laptop}
 use Rattle.laptop.specs.declared.Wait.the-variants.{Answer}

@@ -18,8 +18,8 @@ use Rattle.dock.specs.declared.Standing.{Standing}
 use Rattle.catalogue.specs.Bytes.{holding as holds}
 use Rattle.laptop.specs.Calls.{turnedTo}
 use Rattle.laptop.specs.Catalogue.{Entry, modesAt, entriesFrom}
-use Rattle.laptop.specs.Answers.{filling, copied}
-use Rattle.laptop.specs.Hearing.{Result, withFilling, hearAnswer}
+use Rattle.hearing.specs.Answers.{filling, copied}
+use Rattle.hearing.specs.Hearing.{Result, withFilling, hearAnswer}
 use Rattle.laptop.specs.Owner.{discover}
 use Rattle.laptop.specs.State.{Memory, memory, filledTo, published}
 use Rattle.laptop.specs.declared.Candidate.{Candidate}

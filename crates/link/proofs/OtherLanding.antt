@@ -24,8 +24,8 @@ use Rattle.dock.specs.declared.Standing.{Standing}
 use Rattle.catalogue.specs.Bytes.{holding as holds}
 use Rattle.laptop.specs.Calls.{turnedTo}
 use Rattle.laptop.specs.Catalogue.{Entry, entriesFrom, heldList}
-use Rattle.laptop.specs.Answers.{turnedDown, copied}
-use Rattle.laptop.specs.Hearing.{Result, only, fits, isOpen, hearAnswer}
+use Rattle.hearing.specs.Answers.{turnedDown, copied}
+use Rattle.hearing.specs.Hearing.{Result, only, fits, isOpen, hearAnswer}
 use Rattle.laptop.specs.Marks.{marksAfter}
 use Rattle.laptop.specs.Owner.{discover}
 use Rattle.laptop.specs.State.{Memory, memory, gatheredList, ended, dropped, opened, gatheredTo, published, identityRequest}

@@ -19,8 +19,8 @@ use Rattle.dock.specs.Data.{listed}
 use Rattle.dock.specs.declared.Dock.{Dock}
 use Rattle.dock.specs.declared.Standing.{Standing}
 use Rattle.laptop.specs.Calls.{refusedBy, turnedTo}
-use Rattle.laptop.specs.Answers.{Gathering, gathering}
-use Rattle.laptop.specs.Hearing.{Result, fits, withGathering, hearAnswer}
+use Rattle.gathering.specs.Gathering.{Gathering, gathering}
+use Rattle.hearing.specs.Hearing.{Result, fits, withGathering, hearAnswer}
 use Rattle.laptop.specs.Owner.{isAbsent, discover}
 use Rattle.laptop.specs.State.{Memory, gatheredList, ended, dropped, withPages, gatheredTo}
 use Rattle.laptop.specs.declared.Candidate.{Candidate}

@@ -21,7 +21,7 @@ use Rattle.dock.specs.declared.Standing.the-variants.{Ready}
 use Rattle.catalogue.specs.Bytes.{HeldCatalogue, heldCatalogue}
 use Rattle.catalogue.specs.Bytes.{holding as holds}
 use Rattle.laptop.specs.Catalogue.{Entry, Catalogue}
-use Rattle.laptop.specs.Hearing.{fits, isLatePage}
+use Rattle.hearing.specs.Hearing.{fits, isLatePage}
 use Rattle.laptop.specs.Owner.{isAbsent, requestMessage}
 use Rattle.laptop.specs.State.{gatheredList, identityRequest}
 use Rattle.laptop.specs.declared.Candidate.the-variants.{Done}

@@ -16,7 +16,7 @@ use Rattle.dock.specs.declared.Policy.the-variants.{Give, Nak, Busy}
 use Rattle.dock.specs.declared.Standing.{Standing}
 use Rattle.dock.specs.declared.Standing.the-variants.{Ready, Asking, Sending}
 use Rattle.laptop.specs.Calls.{isAwaiting}
-use Rattle.laptop.specs.Hearing.{isOpen}
+use Rattle.hearing.specs.Hearing.{isOpen}
 use Rattle.laptop.specs.declared.Laptop.{Laptop}
 use Rattle.laptop_laws.specs.Done.{Call, message, next, startOver, drop, enter, exit, timer, protocolError, Done, done}
 use Rattle.laptop_laws.specs.WellFormed.{awaitsIdentity}

@@ -169,7 +169,7 @@ pub fn arrive(
     }
     let before = state.laptop;
     let bytes = link.bytes;
-    let step = laptop::message(
+    let step = hearing::message(
         before,
         answer_in(&bytes, link.length),
         svids,

@@ -40,7 +40,7 @@ pub fn act(
 ) -> Answer {
     let mut request = [0u8; OBJECT];
     let step = match event {
-        Event::Message(objects) => laptop::message(
+        Event::Message(objects) => hearing::message(
             laptop,
             message_in(bytes, objects),
             svids,

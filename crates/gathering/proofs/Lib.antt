@@ -1,0 +1,2 @@
+-- Laws on gathering the list.
+pub mod Listing

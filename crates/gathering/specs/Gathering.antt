@@ -1,0 +1,72 @@
+-- Answers that gather the list: Identity and SVIDs (01, "The laptop end", "Taking a page").
+use Prim.Native.Nat.{ℕ, _+_, _/_, _%_, _^_}
+use mathlib.Core.Bool.{cond}
+use mathlib.Core.List.{List, [], _∷_}
+use lib.Dec.{leb, eqb}
+use lib.ListN.{length, getD, take, replicate}
+use lib.Seq.{sets}
+use Rattle.messages.specs.Layout.{ack, busy}
+use Rattle.pages.specs.Lists.{mostSvids}
+use Rattle.pages.specs.Pages.{perPage}
+use Rattle.pages.specs.Taking.{verdict}
+use Rattle.pages.specs.declared.taking.Verdict.{Verdict}
+use Rattle.pages.specs.declared.taking.Verdict.the-variants.{Bad, Repeat, More, Ends}
+use Rattle.laptop.specs.Calls.{refusedBy, turnedTo}
+use Rattle.laptop.specs.State.{gatheredList, ended, dropped, opened, counted, gatheredTo}
+use Rattle.laptop.specs.declared.Candidate.the-variants.{Open, Done}
+use Rattle.laptop.specs.declared.Laptop.{Laptop}
+use Rattle.laptop.specs.declared.Step.{Step}
+use Rattle.laptop.specs.declared.Told.the-variants.{Nothing}
+
+-- Identity: an ACK opens an empty list; NAK or BUSY leaves no candidate
+pub record Opening : Type 0 where
+  pub step : Step
+  pub svids : List ℕ
+  pub identity : List ℕ
+
+unfoldable pub hearIdentity : Laptop → ℕ → ℕ → List ℕ → List ℕ → List ℕ → Opening
+hearIdentity l kind n objects svids identity =
+    cond (eqb kind ack) (record { step = turnedTo Nothing (opened n l); svids = replicate mostSvids 0; identity = objects })
+    (record { step = turnedTo Nothing (dropped l); svids = svids; identity = identity })
+
+-- SVIDs: what becomes of the call and of the candidate's SVIDs
+pub record Gathering : Type 0 where
+  pub step : Step
+  pub svids : List ℕ
+
+abbrev pub gathering : Step → List ℕ → Gathering
+gathering step svids = record { step = step; svids = svids }
+
+-- two hundred pages without an end
+abbrev pub mostPages : ℕ
+mostPages = 200
+
+unfoldable pub unlessLast : Laptop → List ℕ → Gathering → Gathering
+unlessLast l svids more = cond (leb mostPages (l .pages)) (gathering (refusedBy 14 (dropped l)) svids) more
+
+-- a page is taken by what it is to the gathered list: bad, repeat, full, or ending with k values; new values stand behind the n gathered
+unfoldable pub takeAs : Laptop → List ℕ → List ℕ → ℕ → Verdict → Gathering
+takeAs l svids values n Bad = gathering (refusedBy 8 (dropped l)) svids
+takeAs l svids values n Repeat = unlessLast l svids (gathering (turnedTo Nothing (ended l)) svids)
+takeAs l svids values n More =
+    unlessLast l svids (gathering (turnedTo Nothing (gatheredTo Open (n + perPage) l)) (sets svids n values))
+takeAs l svids values n (Ends k) =
+    gathering (turnedTo Nothing (gatheredTo Done (n + k) l)) (sets svids n (take k values))
+
+unfoldable pub takePage : Laptop → List ℕ → List ℕ → Gathering
+takePage l svids values =
+    takeAs l svids values (length (gatheredList l svids)) (verdict (gatheredList l svids) values)
+
+-- the values of six words
+abbrev pub sixHalves : List ℕ → List ℕ
+sixHalves o =
+    getD o 0 0 / 2 ^ 16 ∷ getD o 0 0 % 2 ^ 16 ∷ getD o 1 0 / 2 ^ 16 ∷ getD o 1 0 % 2 ^ 16 ∷ getD o 2 0 / 2 ^ 16 ∷ getD o 2 0 % 2 ^ 16 ∷
+    getD o 3 0 / 2 ^ 16 ∷ getD o 3 0 % 2 ^ 16 ∷ getD o 4 0 / 2 ^ 16 ∷ getD o 4 0 % 2 ^ 16 ∷ getD o 5 0 / 2 ^ 16 ∷ getD o 5 0 % 2 ^ 16 ∷ []
+
+-- an ACK is counted and taken; BUSY changes nothing more; NAK with nothing gathered makes an empty list, later it is refused 8
+unfoldable pub hearSvids : Laptop → ℕ → List ℕ → List ℕ → Gathering
+hearSvids l kind values svids =
+    cond (eqb kind ack) (takePage (counted l) svids values)
+    (cond (eqb kind busy) (gathering (turnedTo Nothing (ended l)) svids)
+    (cond (eqb (l .gathered .count) 0) (gathering (turnedTo Nothing (gatheredTo Done 0 l)) svids)
+    (gathering (refusedBy 8 (dropped l)) svids)))

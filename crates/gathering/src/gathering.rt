@@ -1,0 +1,184 @@
+// Answers that gather the list: Identity and SVIDs.
+ghost use mathlib.Core.Path.{_≡_};
+ghost use Prim.Native.Nat.{_+_, _*_, _/_, _%_, _≤_};
+ghost use lib.ListN.{length, take};
+ghost use lib.Seq.{sets};
+ghost use Rattle.gathering.specs.Gathering.{hearIdentity, sixHalves, hearSvids};
+ghost use Rattle.gathering.specs.Gathering.{takePage as Gathering·takePage};
+ghost use Rattle.laptop.specs.State.{gatheredTo};
+ghost use Rattle.laptop.specs.State.{opened as State·opened};
+ghost use Rattle.laptop.specs.State.{counted as State·counted};
+use crate::MOST_PAGES;
+use laptop::Candidate;
+use laptop::Laptop;
+use laptop::Size;
+use laptop::Step;
+use laptop::Told;
+use laptop::Wait;
+use laptop::dropped;
+use laptop::ended;
+use laptop::refused;
+use laptop::turned;
+use messages::ACK;
+use messages::BUSY;
+use pages::Verdict;
+use pages::first_svids;
+
+fn opened(objects: u8, laptop: Laptop) -> Laptop
+    ensures { λ r. ⌜ r ≡ State·opened objects laptop ⌝ }
+{
+    Laptop {
+        wait: Wait::Nothing,
+        candidate: Candidate::Open,
+        gathered: Size { objects, count: 0 },
+        filled: 0,
+        ..laptop
+    }
+}
+
+// An ACK opens an empty list; NAK or BUSY leaves no candidate.
+pub fn hear_identity(
+    laptop: Laptop,
+    kind: u8,
+    count: u8,
+    objects: &[u32; 6],
+    svids: &mut [u16; 72],
+    identity: &mut [u32; 6],
+) -> Step
+    ensures { λ r. ⌜ (r ≡ (hearIdentity laptop kind count (now (objects .entry)) (now (svids .entry)) (now (identity .entry))) .step) × (now (svids .exit) ≡ (hearIdentity laptop kind count (now (objects .entry)) (now (svids .entry)) (now (identity .entry))) .svids) × (now (identity .exit) ≡ (hearIdentity laptop kind count (now (objects .entry)) (now (svids .entry)) (now (identity .entry))) .identity) ⌝ }
+{
+    if kind != ACK {
+        return turned(Told::Nothing, dropped(laptop));
+    }
+    *svids = [0u16; 72];
+    *identity = *objects;
+    turned(Told::Nothing, opened(count, laptop))
+}
+
+// The page count goes up by 1, and stays at the greatest number there is.
+fn counted(laptop: Laptop) -> Laptop
+    ensures { λ r. ⌜ r ≡ State·counted laptop ⌝ }
+{
+    let pages = laptop.pages;
+    if pages < 255 {
+        return Laptop {
+            pages: pages + 1,
+            ..laptop
+        };
+    }
+    laptop
+}
+
+fn gathered_to(candidate: Candidate, count: u8, laptop: Laptop) -> Laptop
+    ensures { λ r. ⌜ r ≡ gatheredTo candidate count laptop ⌝ }
+{
+    let objects = laptop.gathered.objects;
+    Laptop {
+        wait: Wait::Nothing,
+        candidate,
+        gathered: Size { objects, count },
+        ..laptop
+    }
+}
+
+fn high_half(object: u32) -> u16
+    ensures { λ r. ⌜ r ≡ object / 65536 ⌝ }
+{
+    (object / 65536) as u16
+}
+
+fn low_half(object: u32) -> u16
+    ensures { λ r. ⌜ r ≡ object % 65536 ⌝ }
+{
+    (object % 65536) as u16
+}
+
+// The values of six objects, two each.
+fn values_of(o: [u32; 6]) -> [u16; 12]
+    ensures { λ r. ⌜ r ≡ sixHalves o ⌝ }
+{
+    [
+        high_half(o[0]),
+        low_half(o[0]),
+        high_half(o[1]),
+        low_half(o[1]),
+        high_half(o[2]),
+        low_half(o[2]),
+        high_half(o[3]),
+        low_half(o[3]),
+        high_half(o[4]),
+        low_half(o[4]),
+        high_half(o[5]),
+        low_half(o[5]),
+    ]
+}
+
+// Puts values behind the first n.
+fn put_values(svids: &mut [u16; 72], n: usize, values: &[u16])
+    requires { ⌜ n + length (now values) ≤ 72 ⌝ }
+    ensures { λ _. ⌜ now (svids .exit) ≡ sets (now (svids .entry)) n (now (values .entry)) ⌝ }
+{
+    let mut i = 0;
+    while i < values.len() {
+        svids[n + i] = values[i];
+        i += 1;
+    }
+}
+
+// A page is taken: what it adds is put behind what is gathered, once it is known not to be refused.
+fn take_page(laptop: Laptop, values: &[u16], svids: &mut [u16; 72]) -> Step
+    ensures { λ r. ⌜ (r ≡ (Gathering·takePage laptop (now (svids .entry)) (now (values .entry))) .step) × (now (svids .exit) ≡ (Gathering·takePage laptop (now (svids .entry)) (now (values .entry))) .svids) ⌝ }
+{
+    let list = first_svids(svids, laptop.gathered.count as usize);
+    let n = list.len();
+    match pages::judge(list, values) {
+        Verdict::Bad => refused(8, dropped(laptop)),
+        Verdict::Repeat => {
+            if MOST_PAGES <= laptop.pages {
+                return refused(14, dropped(laptop));
+            }
+            turned(Told::Nothing, ended(laptop))
+        }
+        Verdict::More => {
+            if MOST_PAGES <= laptop.pages {
+                return refused(14, dropped(laptop));
+            }
+            put_values(svids, n, values);
+            turned(
+                Told::Nothing,
+                gathered_to(Candidate::Open, (n + 12) as u8, laptop),
+            )
+        }
+        Verdict::Ends(k) => {
+            put_values(svids, n, first_svids(values, k as usize));
+            turned(
+                Told::Nothing,
+                gathered_to(Candidate::Done, (n as u8) + k, laptop),
+            )
+        }
+    }
+}
+
+// An ACK is a page; a NAK with nothing gathered makes an empty list, later it is 8; BUSY changes nothing more.
+pub fn hear_svids(
+    laptop: Laptop,
+    kind: u8,
+    count: u8,
+    objects: &[u32; 6],
+    svids: &mut [u16; 72],
+) -> Step
+    ensures { λ r. ⌜ (r ≡ (hearSvids laptop kind (take (count * 2) (sixHalves (now (objects .entry)))) (now (svids .entry))) .step) × (now (svids .exit) ≡ (hearSvids laptop kind (take (count * 2) (sixHalves (now (objects .entry)))) (now (svids .entry))) .svids) ⌝ }
+{
+    if kind == ACK {
+        let values = values_of(*objects);
+        let n = (count as usize) * 2;
+        return take_page(counted(laptop), first_svids(&values, n), svids);
+    }
+    if kind == BUSY {
+        return turned(Told::Nothing, ended(laptop));
+    }
+    if laptop.gathered.count == 0 {
+        return turned(Told::Nothing, gathered_to(Candidate::Done, 0, laptop));
+    }
+    refused(8, dropped(laptop))
+}

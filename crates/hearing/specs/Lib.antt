@@ -1,0 +1,3 @@
+-- Document 01, "The laptop end": what becomes of a message that arrives.
+pub mod Answers
+pub mod Hearing

@@ -1,0 +1,165 @@
+// A message that arrives.
+ghost use mathlib.Core.Path.{_≡_};
+ghost use Rattle.messages.specs.Reading.{readOutcome};
+ghost use Rattle.hearing.specs.Hearing.{noticeOf, hearRequest, isLatePage, hearUnawaited, heard};
+ghost use Rattle.hearing.specs.Hearing.{fits as Hearing·fits};
+ghost use Rattle.laptop.specs.State.{memory};
+use crate::answers::hear_mode;
+use crate::answers::hear_modes;
+use crate::publishing::is_whole;
+use crate::publishing::publish;
+use gathering::hear_identity;
+use gathering::hear_svids;
+use laptop::Candidate;
+use laptop::Laptop;
+use laptop::Notice;
+use laptop::Step;
+use laptop::Told;
+use laptop::Wait;
+use laptop::dropped;
+use laptop::refused;
+use laptop::short_runs;
+use laptop::turned;
+use messages::ACK;
+use messages::ATTENTION;
+use messages::Answer;
+use messages::Head;
+use messages::IDENTITY;
+use messages::MODES;
+use messages::REQ;
+use messages::SVIDS;
+use messages::first_objects;
+use messages::request_of;
+use messages::same_request;
+
+fn notice_of(head: Head, count: u8, object: u32) -> Notice
+    ensures { λ r. ⌜ r ≡ noticeOf head count object ⌝ }
+{
+    Notice {
+        svid: head.svid,
+        position: head.position,
+        count,
+        object,
+    }
+}
+
+// A request: Attention goes to policy at any time, any other is 6.
+fn hear_request(laptop: Laptop, head: Head, count: u8, object: u32) -> Step
+    ensures { λ r. ⌜ r ≡ hearRequest laptop head count object ⌝ }
+{
+    if head.command == ATTENTION {
+        return turned(Told::Attention(notice_of(head, count, object)), laptop);
+    }
+    refused(6, laptop)
+}
+
+// Does the answer fit the awaited SVID, command and position?
+fn fits(wait: Wait, head: Head) -> bool
+    ensures { λ r. ⌜ r ≡ Hearing·fits wait head ⌝ }
+{
+    let Wait::Answer(request) = wait else {
+        return false;
+    };
+    same_request(request, request_of(head))
+}
+
+// A page that nobody awaits may have been confirmed.
+fn is_late_page(laptop: Laptop, head: Head) -> bool
+    ensures { λ r. ⌜ r ≡ isLatePage laptop head ⌝ }
+{
+    let wait = laptop.wait;
+    let Wait::Nothing = wait else {
+        return false;
+    };
+    let candidate = laptop.candidate;
+    let Candidate::Open = candidate else {
+        return false;
+    };
+    if head.command != SVIDS {
+        return false;
+    }
+    head.kind == ACK
+}
+
+// An answer that is not awaited is 6; a late page drops an open list.
+fn hear_unawaited(laptop: Laptop, head: Head) -> Step
+    ensures { λ r. ⌜ r ≡ hearUnawaited laptop head ⌝ }
+{
+    if is_late_page(laptop, head) {
+        return refused(6, dropped(laptop));
+    }
+    refused(6, laptop)
+}
+
+pub fn message(
+    laptop: Laptop,
+    bytes: &[u8],
+    svids: &mut [u16; 72],
+    modes: &mut [u8; 72],
+    identity: &mut [u32; 6],
+    run: &mut [u32],
+    held_svids: &mut [u16; 72],
+    held_modes: &mut [u8; 72],
+    held_identity: &mut [u32; 6],
+    held_run: &mut [u32],
+    entered: &mut [u8; 72],
+) -> Step
+    ensures { λ r. ⌜ (r ≡ (heard laptop (memory (now (svids .entry)) (now (modes .entry)) (now (identity .entry)) (now (run .entry)) (now («held_svids» .entry)) (now («held_modes» .entry)) (now («held_identity» .entry)) (now («held_run» .entry)) (now (entered .entry))) (readOutcome (now (bytes .entry)))) .step) × (memory (now (svids .exit)) (now (modes .exit)) (now (identity .exit)) (now (run .exit)) (now («held_svids» .exit)) (now («held_modes» .exit)) (now («held_identity» .exit)) (now («held_run» .exit)) (now (entered .exit)) ≡ (heard laptop (memory (now (svids .entry)) (now (modes .entry)) (now (identity .entry)) (now (run .entry)) (now («held_svids» .entry)) (now («held_modes» .entry)) (now («held_identity» .entry)) (now («held_run» .entry)) (now (entered .entry))) (readOutcome (now (bytes .entry)))) .after) ⌝ }
+{
+    if short_runs(run, held_run) {
+        return refused(11, laptop);
+    }
+    let reading = messages::read(bytes);
+    let answer = reading.answer;
+    let Answer::Message(head, count) = answer else {
+        return refused(messages::number(answer), laptop);
+    };
+    if head.kind == REQ {
+        return hear_request(laptop, head, count, reading.objects[0]);
+    }
+    let wait = laptop.wait;
+    if !fits(wait, head) {
+        return hear_unawaited(laptop, head);
+    }
+    if head.command == IDENTITY {
+        return hear_identity(laptop, head.kind, count, &reading.objects, svids, identity);
+    }
+    if head.command == SVIDS {
+        let step = hear_svids(laptop, head.kind, count, &reading.objects, svids);
+        let after = step.laptop;
+        if !is_whole(after) {
+            return step;
+        }
+        return publish(
+            step,
+            svids,
+            modes,
+            identity,
+            run,
+            held_svids,
+            held_modes,
+            held_identity,
+            held_run,
+        );
+    }
+    if head.command == MODES {
+        let words = first_objects(&reading.objects, count as usize);
+        let step = hear_modes(laptop, head.kind, words, modes, run);
+        let after = step.laptop;
+        if !is_whole(after) {
+            return step;
+        }
+        return publish(
+            step,
+            svids,
+            modes,
+            identity,
+            run,
+            held_svids,
+            held_modes,
+            held_identity,
+            held_run,
+        );
+    }
+    hear_mode(laptop, head.kind, request_of(head), held_svids, entered)
+}

@@ -4,7 +4,7 @@ use mathlib.Core.Path.{_≡_}
 use mathlib.Core.Bool.{true, false}
 use mathlib.Core.List.{List, _++_}
 use Prim.Native.Nat.{ℕ, _+_, _*_, _/_, _^_, _<_, _≤_}
-use lib.ListN.{length, take}
+use lib.ListN.{length, take, replicate}
 use Rattle.laws.specs.Bounded.{Below}
 use Rattle.messages.specs.Layout.{Message, Representable, messageBytes, withOurVersion}
 use Rattle.messages.specs.Reading.{accepted, readOutcome}
@@ -16,17 +16,19 @@ use Rattle.pages.specs.Pages.{halves, page, isLast, remaining, readOff, pages, 
 use Rattle.pages.specs.Taking.{verdict}
 use Rattle.pages.specs.declared.taking.Verdict.the-variants.{More, Ends}
 use Rattle.pages.proofs.Gathering.{take-more, take-last}
-use Rattle.dock.specs.Data.{listed}
+use Rattle.dock.specs.Data.{listed, goodData, loaded}
 use Rattle.dock.specs.Dock.{Decision, refusedBy, stepOf, bufferOf}
 use Rattle.dock.specs.Sound.{Sound}
 use Rattle.dock.specs.declared.Dock.{Dock}
+use Rattle.dock.specs.declared.Standing.the-variants.{Ready}
 use Rattle.dock.proofs.Laws.{refusal-leaves as Dock·refusal-leaves}
 use Rattle.dock.proofs.Laws.{dock-pages}
-use Rattle.laptop.specs.State.{Memory, identityRequest}
+use Rattle.laptop.specs.State.{Memory, freshLaptop, identityRequest}
 use Rattle.laptop.specs.declared.Laptop.{Laptop}
 use Rattle.laptop.specs.declared.Wait.the-variants.{Answer}
 use Rattle.laptop_laws.specs.Done.{Call, done}
 use Rattle.laptop_laws.specs.Refusing.{RefusedAs}
+use Rattle.laptop_laws.specs.WellFormed.{Lent}
 use Rattle.laptop_laws.proofs.Leaves.{refusal-leaves}
 use Rattle.laptop_laws.proofs.Refusing.{refusal-state}
 use Rattle.catalogue.specs.Bytes.{HeldCatalogue, CatalogueWritten}
@@ -34,9 +36,10 @@ use Rattle.catalogue.specs.declared.Bytes.{Bytes}
 use Rattle.catalogue.proofs.Laws.{refused-leaves}
 use Rattle.link.specs.Cases.{cases, caseL, runs, given, said}
 use Rattle.link.specs.Demand.{Meets, AtRest, Begins, OldOrWhole, Replaces, Counts, EndsBy, NeverBad, RequestTaken}
-use Rattle.link.specs.Joined.{System, Event, calls}
+use Rattle.link.specs.Joined.{Way, gone, System, Event, calls}
 use Rattle.link.specs.Link.{step, run}
 use Rattle.link.proofs.Cases.{cases-hold}
+use Rattle.link.proofs.Premises.{loaded-meets, fresh-rests}
 use Rattle.link.proofs.Laws.{begins-with, old-or-whole, replaced-then, pages-counted, ends-only-by, never-bad-there, request-taken}
 
 -- DEMAND 1. The laptop: a refusal changes no lent byte, whatever the call and whatever the state,
@@ -91,6 +94,15 @@ every-case = cases-hold
 pub begins : (modesOf : ℕ → List ℕ) (s : System) → AtRest s → (out : List ℕ) (c : Call) →
     step modesOf (calls c out) s .laptop .wait ≡ Answer identityRequest → Begins (step modesOf (calls c out) s)
 begins = begins-with
+
+-- A fresh laptop and a dock that is ready are at rest, and a dock that was loaded has data that meets 01.
+pub at-rest-when-fresh : (m : Memory) (way : Way) (d : Dock) (lost : ℕ) → Lent m → m .entered ≡ replicate 72 0 → d .standing ≡ Ready →
+    AtRest (record { laptop = freshLaptop; memory = m; way = way; fate = gone; dock = d; lost = lost })
+at-rest-when-fresh = fresh-rests
+
+pub meets-when-loaded : (modesOf : ℕ → List ℕ) (identity svids : List ℕ) → goodData identity svids ≡ true → Below (2 ^ 16) svids → Below (2 ^ 32) identity →
+    ((svid : ℕ) → Below (2 ^ 32) (modesOf svid)) → Meets modesOf (loaded identity svids)
+meets-when-loaded = loaded-meets
 
 module _ (modesOf : ℕ → List ℕ) (start : System) (meets : Meets modesOf (start .dock)) (begun : Begins start) (events : List Event) where
   -- From then on, after any run of events, the laptop holds its old catalogue to the word, or the dock's whole one in order.

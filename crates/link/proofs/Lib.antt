@@ -18,4 +18,5 @@ pub mod Landed
 pub mod Arriving
 pub mod Runs
 pub mod Laws
+pub mod Premises
 pub mod Cases

@@ -66,7 +66,7 @@ pub fn next(owner: Owner) -> Turn {
     let run = owner.run;
     let held_run = owner.held_run;
     let mut bytes = nothing().bytes;
-    let step = laptop::next(owner.laptop, &svids, &entered, &run, &held_run, &mut bytes);
+    let step = owner::next(owner.laptop, &svids, &entered, &run, &held_run, &mut bytes);
     let request = Message {
         bytes,
         length: step.length as usize,

@@ -33,7 +33,7 @@ fn append_answer(line: &mut [u8], at: usize, answer: Answer) -> usize {
 
 pub fn print_reading() {
     let bytes = bytes_of(HEADER);
-    let answer = messages::read(&bytes).answer;
+    let answer = reading::read(&bytes).answer;
     let mut line = [0u8; LONGEST_LINE];
     let at = append_case(&mut line, 9);
     let at = append_objects(&mut line, at, &bytes);

@@ -36,7 +36,7 @@ fn svids() -> [u16; MOST_SVIDS] {
 pub fn load(dock: Dock, count: usize) -> Dock {
     let svids = svids();
     let identity = IDENTITY_OBJECTS;
-    dock::load(dock, &identity, first_svids(&svids, count)).dock
+    loading::load(dock, &identity, first_svids(&svids, count)).dock
 }
 
 // How many objects Give brings.
@@ -58,7 +58,7 @@ pub fn reply(dock: Dock, policy: Policy, message: Message) -> Replied {
     };
     let modes = [MODE];
     let objects = first_objects(&modes, given(request.command));
-    let step = dock::answer(taken, policy, request, objects, &mut out);
+    let step = answering::answer(taken, policy, request, objects, &mut out);
     let dock = step.dock;
     Replied {
         answer: Message {

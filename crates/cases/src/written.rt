@@ -36,7 +36,7 @@ pub fn write(svid: u16, command: u8, kind: u8, objects: &[u32]) -> Message {
         position: 0,
     };
     let mut bytes = [0u8; LONGEST];
-    if messages::write(head, objects, &mut bytes) != 0 {
+    if writing::write(head, objects, &mut bytes) != 0 {
         return nothing();
     }
     Message {

@@ -35,7 +35,7 @@ pub extern "C" fn dock_load(
     length: &mut u8,
 ) -> u8 {
     let before = *state;
-    let step = dock::load(dock_from(before, identity, svids), new_identity, new_svids);
+    let step = loading::load(dock_from(before, identity, svids), new_identity, new_svids);
     let dock = step.dock;
     let objects = dock.identity;
     let list = dock.svids;
@@ -74,7 +74,7 @@ pub extern "C" fn dock_answer(
 ) -> u8 {
     let before = *state;
     let request = request_from(svid, command as u16, position as u16);
-    let step = dock::answer(
+    let step = answering::answer(
         dock_from(before, identity, svids),
         policy_from(policy),
         request,

@@ -13,7 +13,7 @@ pub extern "C" fn laptop_next(
     handed: &mut [u32; 7],
 ) -> u8 {
     let before = *state;
-    let step = laptop::next(laptop_from(before), svids, entered, run, held_run, out);
+    let step = owner::next(laptop_from(before), svids, entered, run, held_run, out);
     hand_over(step, state, handed)
 }
 
@@ -27,7 +27,7 @@ pub extern "C" fn laptop_start_over(
     handed: &mut [u32; 7],
 ) -> u8 {
     let before = *state;
-    let step = laptop::start_over(laptop_from(before), entered, run, held_run, out);
+    let step = owner::start_over(laptop_from(before), entered, run, held_run, out);
     hand_over(step, state, handed)
 }
 
@@ -40,7 +40,7 @@ pub extern "C" fn laptop_drop(
     handed: &mut [u32; 7],
 ) -> u8 {
     let before = *state;
-    let step = laptop::drop(laptop_from(before), run, held_run, out);
+    let step = owner::drop(laptop_from(before), run, held_run, out);
     hand_over(step, state, handed)
 }
 
@@ -58,7 +58,7 @@ pub extern "C" fn laptop_enter(
     handed: &mut [u32; 7],
 ) -> u8 {
     let before = *state;
-    let step = laptop::enter(
+    let step = owner::enter(
         laptop_from(before),
         svid,
         position,
@@ -86,7 +86,7 @@ pub extern "C" fn laptop_exit(
     handed: &mut [u32; 7],
 ) -> u8 {
     let before = *state;
-    let step = laptop::exit(
+    let step = owner::exit(
         laptop_from(before),
         svid,
         position,

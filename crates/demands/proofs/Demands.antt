@@ -13,9 +13,9 @@ use Rattle.messages.proofs.Laws.{write-read}
 use Rattle.messages.proofs.RoundTrip.{read-bytes}
 use Rattle.pages.specs.Lists.{soundList}
 use Rattle.pages.specs.Pages.{halves, page, isLast, remaining, readOff, pages, readPages}
-use Rattle.pages.specs.Taking.{verdict}
-use Rattle.pages.specs.declared.taking.Verdict.the-variants.{More, Ends}
-use Rattle.pages.proofs.Gathering.{take-more, take-last}
+use Rattle.taking.specs.Taking.{verdict}
+use Rattle.taking.specs.declared.Verdict.the-variants.{More, Ends}
+use Rattle.taking.proofs.Gathering.{take-more, take-last}
 use Rattle.dock.specs.Data.{listed, goodData, loaded}
 use Rattle.dock.specs.Dock.{Decision, refusedBy, stepOf, bufferOf}
 use Rattle.dock.specs.Sound.{Sound}

@@ -14,7 +14,7 @@ use Rattle.messages.specs.Reading.{accepted, readOutcome}
 use Rattle.messages.specs.Writing.{wellShaped, writeRefusal, written}
 use Rattle.messages.proofs.RoundTrip.{read-bytes}
 use Rattle.pages.specs.Pages.{page, pages, readPages}
-use Rattle.pages.proofs.Gathering.{sound-no-zero}
+use Rattle.pages.proofs.Scanning.{sound-no-zero}
 use Rattle.pages.proofs.Laws.{page-size, page-below, read-all}
 use Rattle.dock.specs.Data.{listed}
 use Rattle.dock.specs.Dock.{Decision, refuses, turns, sends, refusedBy, acceptedBy, stepOf, bufferOf, Stepped, reply, decideLoad, decideMessage, decideAnswer, decideSent, decideFailed}

@@ -2,5 +2,4 @@
 pub mod Decisions
 pub mod Kept
 pub mod Laws
-pub mod Lists
 pub mod Steps

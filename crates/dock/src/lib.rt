@@ -1,18 +1,20 @@
-// The dock end (Responder): it answers requests as policy says, and shows its SVIDs page by page. Document 01, "The dock end".
-mod answering;
+// The dock end (Responder): its state, the message that arrives, and what becomes of an answer. Document 01, "The dock end". `loading` has its data,
+// `answering` policy's answer.
 mod confirming;
-mod list;
-mod loading;
 mod receiving;
 mod replying;
+mod unloaded;
 
-pub use answering::answer;
 pub use confirming::failed;
 pub use confirming::sent;
-pub use loading::fresh;
-pub use loading::load;
 use messages::Request;
 pub use receiving::message;
+pub use replying::accepted;
+pub use replying::refused;
+pub use replying::send;
+pub use replying::send_bare;
+pub use replying::standing_at;
+pub use unloaded::fresh;
 
 // Where the dock stands: asking policy for one request, or sending an answer (true: a page of its list).
 pub enum Standing {

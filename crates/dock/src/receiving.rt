@@ -48,10 +48,10 @@ fn receive(dock: Dock, request: Request, out: &mut [u8]) -> Step
 pub fn message(dock: Dock, bytes: &[u8], out: &mut [u8]) -> Step
     ensures { λ r. ⌜ Stepped dock (decideMessage dock (readOutcome (now (bytes .entry)))) (now (out .entry)) r (now (out .exit)) ⌝ }
 {
-    let reading = messages::read(bytes);
+    let reading = reading::read(bytes);
     let answer = reading.answer;
     let Answer::Message(head, _) = answer else {
-        return refused(messages::number(answer), dock);
+        return refused(reading::number(answer), dock);
     };
     if head.kind != REQ {
         return refused(6, dock);

@@ -11,7 +11,7 @@ use messages::Request;
 use messages::head_for;
 
 // Nothing is sent, and the state stays.
-pub(crate) fn refused(number: u8, dock: Dock) -> Step
+pub fn refused(number: u8, dock: Dock) -> Step
     ensures { λ r. ⌜ r ≡ refusedBy number dock ⌝ }
 {
     Step {
@@ -21,7 +21,7 @@ pub(crate) fn refused(number: u8, dock: Dock) -> Step
     }
 }
 
-pub(crate) fn accepted(length: u8, dock: Dock) -> Step
+pub fn accepted(length: u8, dock: Dock) -> Step
     ensures { λ r. ⌜ r ≡ acceptedBy length dock ⌝ }
 {
     Step {
@@ -31,14 +31,14 @@ pub(crate) fn accepted(length: u8, dock: Dock) -> Step
     }
 }
 
-pub(crate) fn standing_at(standing: Standing, dock: Dock) -> Dock
+pub fn standing_at(standing: Standing, dock: Dock) -> Dock
     ensures { λ r. ⌜ r ≡ withStanding standing dock ⌝ }
 {
     Dock { standing, ..dock }
 }
 
 // Hands an answer to a request over; a buffer that is too short is refused, and the dock stays as it was.
-pub(crate) fn send(
+pub fn send(
     dock: Dock,
     request: Request,
     kind: u8,
@@ -48,7 +48,7 @@ pub(crate) fn send(
 ) -> Step
     ensures { λ r. ⌜ Stepped dock (sends (reply request kind (now (objects .entry))) (sending page dock)) (now (out .entry)) r (now (out .exit)) ⌝ }
 {
-    let number = messages::write(head_for(request, kind), objects, out);
+    let number = writing::write(head_for(request, kind), objects, out);
     if number != 0 {
         return refused(number, dock);
     }
@@ -57,7 +57,7 @@ pub(crate) fn send(
 }
 
 // An answer without objects.
-pub(crate) fn send_bare(dock: Dock, request: Request, kind: u8, out: &mut [u8]) -> Step
+pub fn send_bare(dock: Dock, request: Request, kind: u8, out: &mut [u8]) -> Step
     ensures { λ r. ⌜ Stepped dock (sends (reply request kind []) (sending false dock)) (now (out .entry)) r (now (out .exit)) ⌝ }
 {
     let none = [0u32; 0];

@@ -104,7 +104,7 @@ fn take_load(dock: Dock) -> Taken {
     if !fill_halves(svids) {
         return not_answered(Outcome::Cut, dock);
     }
-    answered(dock::load(dock, identity, svids))
+    answered(loading::load(dock, identity, svids))
 }
 
 fn request_of(fixed: &[u8; FIXED]) -> Request {
@@ -126,7 +126,7 @@ fn take_answer(policy: Policy, dock: Dock, output: &mut [u8]) -> Taken {
         return not_answered(Outcome::Cut, dock);
     }
     let request = request_of(&fixed);
-    answered(dock::answer(dock, policy, request, objects, output))
+    answered(answering::answer(dock, policy, request, objects, output))
 }
 
 pub fn take(kind: u8, dock: Dock, output: &mut [u8]) -> Taken {

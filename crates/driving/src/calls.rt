@@ -50,14 +50,14 @@ pub fn make_call(
     out: &mut [u8],
 ) -> Step {
     match call {
-        Call::Next => laptop::next(laptop, svids, entered, run, held_run, out),
-        Call::StartOver => laptop::start_over(laptop, entered, run, held_run, out),
-        Call::Drop => laptop::drop(laptop, run, held_run, out),
+        Call::Next => owner::next(laptop, svids, entered, run, held_run, out),
+        Call::StartOver => owner::start_over(laptop, entered, run, held_run, out),
+        Call::Drop => owner::drop(laptop, run, held_run, out),
         Call::ResponseTimer => laptop::response_timer(laptop),
         Call::EntryTimer => laptop::entry_timer(laptop),
         Call::ExitTimer => laptop::exit_timer(laptop),
         Call::ProtocolError => laptop::protocol_error(laptop),
-        Call::Enter(mode) => laptop::enter(
+        Call::Enter(mode) => owner::enter(
             laptop,
             mode.svid,
             mode.position,
@@ -68,7 +68,7 @@ pub fn make_call(
             held_run,
             out,
         ),
-        Call::Exit(mode) => laptop::exit(
+        Call::Exit(mode) => owner::exit(
             laptop,
             mode.svid,
             mode.position,

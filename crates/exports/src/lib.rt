@@ -11,10 +11,10 @@ pub extern "C" fn exports_read(bytes: &[u8], into: &mut [u32; 11]) -> u8
     ensures { λ r. ⌜ r ≡ numberOf (readOutcome (now (bytes .entry))) ⌝ }
     ensures { λ r. ⌜ now (into .exit) ≡ numbersOf (readOutcome (now (bytes .entry))) (now (into .entry)) ⌝ }
 {
-    let reading = messages::read(bytes);
+    let reading = reading::read(bytes);
     let answer = reading.answer;
     let Answer::Message(head, count) = answer else {
-        return messages::number(answer);
+        return reading::number(answer);
     };
     let objects = reading.objects;
     *into = [

@@ -12,9 +12,9 @@ use Rattle.laptop.specs.declared.Candidate.the-variants.{Open, Done}
 use Rattle.laptop.specs.declared.Laptop.{Laptop}
 use Rattle.laptop.specs.declared.Step.{Step}
 use Rattle.laptop.specs.declared.Told.the-variants.{Nothing}
-use Rattle.pages.specs.Taking.{verdict}
-use Rattle.pages.specs.declared.taking.Verdict.{Verdict}
-use Rattle.pages.specs.declared.taking.Verdict.the-variants.{Bad, Repeat, More, Ends}
+use Rattle.taking.specs.Taking.{verdict}
+use Rattle.taking.specs.declared.Verdict.{Verdict}
+use Rattle.taking.specs.declared.Verdict.the-variants.{Bad, Repeat, More, Ends}
 
 module _ (l : Laptop) where
   pub counted-more : l .pages < 255 → withPages (l .pages + 1) l ≡ counted l

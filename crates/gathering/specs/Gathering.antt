@@ -8,9 +8,9 @@ use lib.Seq.{sets}
 use Rattle.messages.specs.Layout.{ack, busy}
 use Rattle.pages.specs.Lists.{mostSvids}
 use Rattle.pages.specs.Pages.{perPage}
-use Rattle.pages.specs.Taking.{verdict}
-use Rattle.pages.specs.declared.taking.Verdict.{Verdict}
-use Rattle.pages.specs.declared.taking.Verdict.the-variants.{Bad, Repeat, More, Ends}
+use Rattle.taking.specs.Taking.{verdict}
+use Rattle.taking.specs.declared.Verdict.{Verdict}
+use Rattle.taking.specs.declared.Verdict.the-variants.{Bad, Repeat, More, Ends}
 use Rattle.laptop.specs.Calls.{refusedBy, turnedTo}
 use Rattle.laptop.specs.State.{gatheredList, ended, dropped, opened, counted, gatheredTo}
 use Rattle.laptop.specs.declared.Candidate.the-variants.{Open, Done}

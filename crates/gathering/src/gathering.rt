@@ -21,8 +21,8 @@ use laptop::refused;
 use laptop::turned;
 use messages::ACK;
 use messages::BUSY;
-use pages::Verdict;
 use pages::first_svids;
+use taking::Verdict;
 
 fn opened(objects: u8, laptop: Laptop) -> Laptop
     ensures { λ r. ⌜ r ≡ State·opened objects laptop ⌝ }
@@ -131,7 +131,7 @@ fn take_page(laptop: Laptop, values: &[u16], svids: &mut [u16; 72]) -> Step
 {
     let list = first_svids(svids, laptop.gathered.count as usize);
     let n = list.len();
-    match pages::judge(list, values) {
+    match taking::judge(list, values) {
         Verdict::Bad => refused(8, dropped(laptop)),
         Verdict::Repeat => {
             if MOST_PAGES <= laptop.pages {

@@ -109,10 +109,10 @@ pub fn message(
     if short_runs(run, held_run) {
         return refused(11, laptop);
     }
-    let reading = messages::read(bytes);
+    let reading = reading::read(bytes);
     let answer = reading.answer;
     let Answer::Message(head, count) = answer else {
-        return refused(messages::number(answer), laptop);
+        return refused(reading::number(answer), laptop);
     };
     if head.kind == REQ {
         return hear_request(laptop, head, count, reading.objects[0]);

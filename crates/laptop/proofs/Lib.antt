@@ -1,6 +1,4 @@
 -- Laws on the laptop's definitions, a file for each topic.
-pub mod Asking
-pub mod Entering
 pub mod HeldList
 pub mod Marking
 pub mod Steps

@@ -1,14 +1,16 @@
 -- What a decision makes of the state and the buffer.
 use mathlib.Core.Path.{_≡_, ap, subst, sym, _∙_}
+use mathlib.Core.Bool.{true}
 use mathlib.Core.List.{List}
-use Prim.Native.Nat.{ℕ, _+_, _*_}
+use Prim.Native.Nat.{ℕ, _+_, _*_, _<_, _≤_}
+use lib.Dec.{ltb}
 use lib.ListN.{length}
-use borrow.Author.Tests.{eq-eqb, ne-eqb}
+use borrow.Author.Tests.{eq-eqb, ne-eqb, lt-ltb, le-ltb}
 use Rattle.messages.specs.Layout.{Message}
 use Rattle.messages.specs.Writing.{writeRefusal, Written}
 use Rattle.messages.specs.declared.Head.{Head}
 use Rattle.messages.proofs.Stores.{length-message}
-use Rattle.laptop.specs.Calls.{Decision, refuses, turns, sends, refusedBy, turnedTo, sentBy, stepOf, bufferOf, Stepped, unless}
+use Rattle.laptop.specs.Calls.{Decision, refuses, turns, sends, refusedBy, turnedTo, sentBy, stepOf, bufferOf, Stepped, unless, shortRuns}
 use Rattle.laptop.specs.declared.Laptop.{Laptop}
 use Rattle.laptop.specs.declared.Step.{Step}
 use Rattle.laptop.specs.declared.Told.{Told}
@@ -72,3 +74,13 @@ module _ (n number : ℕ) (l : Laptop) (decision : Decision) (e : n ≡ number) 
   pub unless-passed : n ≡ 0 → unless number l decision ≡ decision
   unfolding unless
   unless-passed h = rw (← e, eq-eqb n 0 h)
+
+-- short runs
+module _ (run heldRun : ℕ) where
+  pub short-first : run < 432 → true ≡ shortRuns run heldRun
+  unfolding shortRuns
+  short-first h = simp (lt-ltb _ _ h)
+
+  pub short-second : 432 ≤ run → ltb heldRun 432 ≡ shortRuns run heldRun
+  unfolding shortRuns
+  short-second h = simp (le-ltb _ _ h)

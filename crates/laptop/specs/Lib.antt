@@ -2,6 +2,5 @@
 pub mod Calls
 pub mod Catalogue
 pub mod Marks
-pub mod Owner
 pub mod State
 pub mod Timers

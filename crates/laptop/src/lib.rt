@@ -1,25 +1,20 @@
-// The laptop end (Initiator): its state, the owner's calls and the timers. Document 01, "The laptop end". `hearing` has the message that arrives.
+// The laptop end (Initiator): its state, the timers, and the report of entered modes. Document 01, "The laptop end". `owner` has the owner's calls,
+// `hearing` the message that arrives.
 //
 // What is small goes by value in a `Laptop`. Lent beside it, in arrays that every call leaves as its promise says: the candidate's SVIDs, the
 // number of modes of each and its identity objects; the same of the held catalogue; the entered modes of each held SVID, a bit for each
 // position; and the two runs of mode words.
 mod marks;
-mod modes;
-mod owner;
 mod places;
 mod settling;
 mod timers;
 
 pub use marks::marked;
+pub use marks::named;
 pub use marks::report;
 pub use marks::set_at;
 pub use marks::unmarked;
 use messages::Request;
-pub use modes::enter;
-pub use modes::exit;
-pub use owner::drop;
-pub use owner::next;
-pub use owner::start_over;
 pub use places::held_list;
 pub use places::place_of;
 pub use settling::dropped;

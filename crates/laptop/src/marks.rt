@@ -10,7 +10,7 @@ use crate::places::held_list;
 use crate::places::place_of;
 
 // The set of what a position names: its own bit, or all six for 7.
-pub(crate) fn named(position: u8) -> u8
+pub fn named(position: u8) -> u8
     ensures { λ r. ⌜ r ≡ Marks·named position ⌝ }
 {
     match position {

@@ -21,18 +21,18 @@ use Rattle.messages.specs.declared.request.Request.{Request}
 use Rattle.messages.proofs.Laws.{identity-least, modes-least, read-shape, read-count}
 use Rattle.pages.specs.Lists.{soundList}
 use Rattle.pages.specs.Pages.{halves}
-use Rattle.pages.specs.Taking.{verdict}
-use Rattle.pages.specs.declared.taking.Verdict.{Verdict}
-use Rattle.pages.specs.declared.taking.Verdict.the-variants.{Bad, Repeat, More, Ends}
-use Rattle.pages.proofs.Growing.{more-sound, ends-sound}
-use Rattle.pages.proofs.Sizes.{more-fits, ends-fits}
+use Rattle.taking.specs.Taking.{verdict}
+use Rattle.taking.specs.declared.Verdict.{Verdict}
+use Rattle.taking.specs.declared.Verdict.the-variants.{Bad, Repeat, More, Ends}
+use Rattle.taking.proofs.Growing.{more-sound, ends-sound}
+use Rattle.taking.proofs.Sizes.{more-fits, ends-fits}
 use Rattle.gathering.specs.Gathering.{Gathering, hearIdentity, unlessLast, takeAs, takePage, hearSvids}
 use Rattle.hearing.specs.Answers.{Filling, filling, Marking, storeModes, hearModes, hearMode, isDone, isWhole, copied}
 use Rattle.laptop.specs.Catalogue.{heldList}
 use Rattle.laptop.specs.Calls.{refusedBy, turnedTo, shortRuns}
 use Rattle.hearing.specs.Hearing.{Result, hearRequest, fits, isLatePage, hearUnawaited, withOpening, withGathering, withFilling, withMarking, settledStep, settledList, settledRun, settled, hearAnswer, hear, heard}
 use Rattle.laptop.specs.Marks.{placeOf, named, markedBy, marksAfter}
-use Rattle.laptop.specs.Owner.{anyEntered, isAbsent}
+use Rattle.owner.specs.Owner.{anyEntered, isAbsent}
 use Rattle.laptop.specs.State.{Memory, memory, gatheredList, ended, dropped, opened, withPages, counted, published}
 use Rattle.laptop_laws.specs.WellFormed.{Listed, HeldFits, CandidateFits, WaitFits, awaitsIdentity, WellFormed}
 use Rattle.laptop.specs.declared.Candidate.{Candidate}

@@ -14,7 +14,7 @@ use Rattle.messages.specs.declared.request.Request.{Request}
 use Rattle.laptop.specs.Calls.{Decision, refuses, turns, sends, refusedBy, sentBy, stepOf, unless}
 use Rattle.laptop.specs.Catalogue.{heldList}
 use Rattle.laptop.specs.Marks.{placeOf, isEntered}
-use Rattle.laptop.specs.Owner.{ownerRefusal, anyEntered, askingRefusal, asksNext, decideNext, decideStartOver, decideDrop, hasMode, isAbsent, decideEnter, exitRefusal, decideExit}
+use Rattle.owner.specs.Owner.{ownerRefusal, anyEntered, askingRefusal, asksNext, decideNext, decideStartOver, decideDrop, hasMode, isAbsent, decideEnter, exitRefusal, decideExit}
 use Rattle.laptop.specs.State.{Memory, ended, dropped, awaiting, identityAsked, freshLaptop}
 use Rattle.laptop.specs.Timers.{over, decideTimer, decideError}
 use Rattle.laptop_laws.specs.WellFormed.{Lent, WaitFits, awaitsIdentity, isAsking, WellFormed}

@@ -11,8 +11,8 @@ use Rattle.messages.specs.Requests.{requestOf}
 use Rattle.messages.specs.declared.request.Request.{Request}
 use Rattle.messages.specs.Writing.{writeRefusal, written}
 use Rattle.pages.specs.Pages.{halves}
-use Rattle.pages.specs.declared.taking.Verdict.{Verdict}
-use Rattle.pages.specs.declared.taking.Verdict.the-variants.{Bad, Repeat, More, Ends}
+use Rattle.taking.specs.declared.Verdict.{Verdict}
+use Rattle.taking.specs.declared.Verdict.the-variants.{Bad, Repeat, More, Ends}
 use Rattle.laws.specs.Padded.{padded}
 use Rattle.gathering.specs.Gathering.{Opening, Gathering, gathering, hearIdentity, unlessLast, takeAs, takePage, hearSvids}
 use Rattle.hearing.specs.Answers.{Marking, Filling, filling, storeModes, hearModes, hearMode, isWhole}

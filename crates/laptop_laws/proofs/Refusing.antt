@@ -17,14 +17,14 @@ use Rattle.messages.specs.declared.Head.{Head}
 use Rattle.messages.specs.declared.request.Request.{Request}
 use Rattle.messages.proofs.Refusals.{outcome-refused}
 use Rattle.pages.specs.Pages.{halves}
-use Rattle.pages.specs.declared.taking.Verdict.{Verdict}
-use Rattle.pages.specs.declared.taking.Verdict.the-variants.{Bad, Repeat, More, Ends}
+use Rattle.taking.specs.declared.Verdict.{Verdict}
+use Rattle.taking.specs.declared.Verdict.the-variants.{Bad, Repeat, More, Ends}
 use Rattle.gathering.specs.Gathering.{Opening, Gathering, hearIdentity, unlessLast, takeAs, takePage, hearSvids}
 use Rattle.hearing.specs.Answers.{Filling, Marking, storeModes, hearModes, hearMode, isWhole}
 use Rattle.laptop.specs.Calls.{Decision, refuses, turns, sends, refusedBy, sentBy, stepOf, unless, shortRuns, isAwaiting}
 use Rattle.hearing.specs.Hearing.{Result, isIdle, isOpen, hearRequest, fits, isLatePage, hearUnawaited, withOpening, withMarking, settledStep, hearAnswer, hear, heard}
 use Rattle.laptop.specs.Marks.{placeOf, isEntered}
-use Rattle.laptop.specs.Owner.{ownerRefusal, anyEntered, askingRefusal, asksNext, decideNext, decideStartOver, decideDrop, hasMode, isAbsent, enterRefusal, decideEnter, exitRefusal, decideExit}
+use Rattle.owner.specs.Owner.{ownerRefusal, anyEntered, askingRefusal, asksNext, decideNext, decideStartOver, decideDrop, hasMode, isAbsent, enterRefusal, decideEnter, exitRefusal, decideExit}
 use Rattle.laptop.specs.State.{Memory, dropped, counted, published}
 use Rattle.laptop.specs.Timers.{over, decideTimer, decideError}
 use Rattle.laptop.specs.declared.Candidate.{Candidate}

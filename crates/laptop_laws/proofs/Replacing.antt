@@ -14,15 +14,15 @@ use Rattle.messages.specs.Writing.{writeRefusal}
 use Rattle.messages.specs.declared.Head.{Head}
 use Rattle.messages.specs.declared.request.Request.{Request}
 use Rattle.pages.specs.Pages.{halves}
-use Rattle.pages.specs.declared.taking.Verdict.{Verdict}
-use Rattle.pages.specs.declared.taking.Verdict.the-variants.{Bad, Repeat, More, Ends}
+use Rattle.taking.specs.declared.Verdict.{Verdict}
+use Rattle.taking.specs.declared.Verdict.the-variants.{Bad, Repeat, More, Ends}
 use Rattle.gathering.specs.Gathering.{Opening, Gathering, hearIdentity, unlessLast, takeAs, takePage, hearSvids}
 use Rattle.hearing.specs.Answers.{Filling, Marking, storeModes, hearModes, hearMode, isWhole}
 use Rattle.laptop.specs.Calls.{Decision, refuses, turns, sends, refusedBy, sentBy, stepOf, unless, shortRuns}
 use Rattle.laptop_laws.specs.Done.{Call, message, next, startOver, drop, enter, exit, timer, protocolError, done}
 use Rattle.hearing.specs.Hearing.{Result, hearRequest, fits, isLatePage, hearUnawaited, withOpening, withMarking, settledStep, settledList, settledRun, settled, hearAnswer, hear, heard}
 use Rattle.laptop_laws.specs.Holding.{Holding, holding, candidateHeld, KeptOrPublished}
-use Rattle.laptop.specs.Owner.{asksNext, decideNext, decideStartOver, decideDrop, decideEnter, decideExit}
+use Rattle.owner.specs.Owner.{asksNext, decideNext, decideStartOver, decideDrop, decideEnter, decideExit}
 use Rattle.laptop.specs.State.{Memory, memory, withPages, counted}
 use Rattle.laptop.specs.Timers.{over, decideTimer, decideError}
 use Rattle.laptop.specs.declared.Candidate.{Candidate}

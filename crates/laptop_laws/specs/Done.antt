@@ -5,7 +5,7 @@ use lib.ListN.{length}
 use Rattle.messages.specs.Reading.{readOutcome}
 use Rattle.laptop.specs.Calls.{Decision, stepOf, bufferOf}
 use Rattle.hearing.specs.Hearing.{heard}
-use Rattle.laptop.specs.Owner.{decideNext, decideStartOver, decideDrop, decideEnter, decideExit}
+use Rattle.owner.specs.Owner.{decideNext, decideStartOver, decideDrop, decideEnter, decideExit}
 use Rattle.laptop.specs.State.{Memory}
 use Rattle.laptop.specs.Timers.{decideTimer, decideError}
 use Rattle.laptop.specs.declared.Laptop.{Laptop}

@@ -12,7 +12,7 @@ use Rattle.pages.specs.Lists.{mostSvids, soundList}
 use Rattle.gathering.specs.Gathering.{mostPages}
 use Rattle.laptop.specs.Catalogue.{modesEach, runWords}
 use Rattle.laptop.specs.Marks.{allPositions}
-use Rattle.laptop.specs.Owner.{anyEntered, discover, isAbsent}
+use Rattle.owner.specs.Owner.{anyEntered, discover, isAbsent}
 use Rattle.laptop.specs.State.{Memory, identityRequest}
 use Rattle.laptop.specs.declared.Candidate.{Candidate}
 use Rattle.laptop.specs.declared.Candidate.the-variants.{Absent, Open, Done}

@@ -15,7 +15,7 @@ use Rattle.messages.specs.declared.request.Request.{Request}
 use Rattle.dock.specs.declared.Dock.{Dock}
 use Rattle.dock.specs.declared.Standing.{Standing}
 use Rattle.laptop.specs.Calls.{Decision, refuses, turns, sends, stepOf, unless, isAwaiting}
-use Rattle.laptop.specs.Owner.{discover, requestMessage, asksNext, decideNext, decideStartOver, decideDrop, decideEnter, decideExit}
+use Rattle.owner.specs.Owner.{discover, requestMessage, asksNext, decideNext, decideStartOver, decideDrop, decideEnter, decideExit}
 use Rattle.laptop.specs.State.{Memory, ended, dropped, awaiting, identityRequest, identityAsked}
 use Rattle.laptop.specs.Timers.{over, decideTimer, decideError}
 use Rattle.laptop.specs.declared.Candidate.{Candidate}

@@ -15,7 +15,7 @@ use Rattle.messages.specs.declared.Head.{Head}
 use Rattle.messages.specs.declared.request.Request.{Request}
 use Rattle.dock.specs.declared.Dock.{Dock}
 use Rattle.hearing.specs.Hearing.{fits, isOpen, isLatePage}
-use Rattle.laptop.specs.Owner.{discover}
+use Rattle.owner.specs.Owner.{discover}
 use Rattle.laptop.specs.State.{Memory, identityRequest}
 use Rattle.laptop.specs.declared.Candidate.{Candidate}
 use Rattle.laptop.specs.declared.Candidate.the-variants.{Absent, Open, Done}

@@ -6,7 +6,7 @@ use Rattle.messages.specs.Table.{rowOf, countsOf, fits, shape}
 use Rattle.messages.specs.Writing.{wellShaped, writeRefusal, written}
 use Rattle.pages.specs.Lists.{isIn, soundList}
 use Rattle.pages.specs.Pages.{paired, halves, values, page, isLast, readOff}
-use Rattle.pages.specs.Taking.{sameList, isRepeat, isFull, isEnding, allNew, adds, endingVerdict, verdict}
+use Rattle.taking.specs.Taking.{sameList, isRepeat, isFull, isEnding, allNew, adds, endingVerdict, verdict}
 use Rattle.dock.specs.Data.{goodIdentity, loaded}
 use Rattle.dock.specs.Dock.{stepOf, bufferOf, asking, sending, decideRequest, decideMessage, givePage, giveIdentity, giveModes, giveOther, bare, decidePolicy, decideAnswer, moved, decideSent, decideFailed}
 use Rattle.gathering.specs.Gathering.{hearIdentity, unlessLast, takeAs, takePage, hearSvids}
@@ -16,7 +16,7 @@ use Rattle.laptop.specs.Calls.{stepOf as Laptop·stepOf}
 use Rattle.laptop.specs.Calls.{bufferOf as Laptop·bufferOf}
 use Rattle.laptop.specs.Catalogue.{modesNumber, modesAt, entriesFrom}
 use Rattle.hearing.specs.Hearing.{isLatePage, hearUnawaited, settledStep, settledList, settledRun, hearAnswer, hear, heard}
-use Rattle.laptop.specs.Owner.{ownerRefusal, anyEntered, askingRefusal, asksNext, decideNext}
+use Rattle.owner.specs.Owner.{ownerRefusal, anyEntered, askingRefusal, asksNext, decideNext}
 use Rattle.laptop.specs.State.{counted}
 use Rattle.laptop.specs.Timers.{over, decideTimer}
 use Rattle.catalogue.specs.Bytes.{svidBytes, modeBytes, modesBytes, entryBytes, entriesBytes, catalogueBytes, heldBytes}

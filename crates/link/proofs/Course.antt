@@ -12,11 +12,11 @@ use Rattle.laws.specs.Bounded.{Below}
 use Rattle.messages.specs.declared.request.Request.{Request}
 use Rattle.pages.specs.Lists.{soundList}
 use Rattle.pages.specs.Pages.{halves, page, isLast, remaining, readOff}
-use Rattle.pages.specs.Taking.{before, verdict}
-use Rattle.pages.specs.declared.taking.Verdict.the-variants.{Repeat, More, Ends}
-use Rattle.pages.proofs.Gathering.{repeat-again, take-more, take-last}
-use Rattle.pages.proofs.Judging.{take-before}
-use Rattle.pages.proofs.Sizes.{more-fits}
+use Rattle.taking.specs.Taking.{before, verdict}
+use Rattle.taking.specs.declared.Verdict.the-variants.{Repeat, More, Ends}
+use Rattle.taking.proofs.Gathering.{repeat-again, take-more, take-last}
+use Rattle.taking.proofs.Judging.{take-before}
+use Rattle.taking.proofs.Sizes.{more-fits}
 use Rattle.dock.specs.declared.Standing.{Standing}
 use Rattle.dock.specs.declared.Standing.the-variants.{Ready, Asking, Sending}
 

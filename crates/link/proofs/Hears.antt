@@ -16,8 +16,8 @@ use Rattle.messages.specs.Requests.{svidsCommand, modesCommand}
 use Rattle.messages.specs.Table.{pdSid}
 use Rattle.messages.specs.declared.request.Request.{Request}
 use Rattle.pages.specs.Pages.{halves}
-use Rattle.pages.specs.Taking.{verdict}
-use Rattle.pages.specs.declared.taking.Verdict.the-variants.{Repeat, More, Ends}
+use Rattle.taking.specs.Taking.{verdict}
+use Rattle.taking.specs.declared.Verdict.the-variants.{Repeat, More, Ends}
 use Rattle.dock.specs.Dock.{reply}
 use Rattle.gathering.specs.Gathering.{Gathering, gathering, hearIdentity, takePage, hearSvids}
 use Rattle.hearing.specs.Answers.{filling, storeModes, hearModes, turnedDown, hearMode, isDone, isWhole, copied}
@@ -25,7 +25,7 @@ use Rattle.laptop.specs.Calls.{refusedBy, turnedTo, shortRuns}
 use Rattle.laptop.specs.Catalogue.{heldList}
 use Rattle.hearing.specs.Hearing.{Result, only, fits, isLatePage, hearUnawaited, withGathering, withFilling, settledStep, settledList, settledRun, settled, hearAnswer, hear, heard}
 use Rattle.laptop.specs.Marks.{marksAfter}
-use Rattle.laptop.specs.Owner.{discover}
+use Rattle.owner.specs.Owner.{discover}
 use Rattle.laptop.specs.State.{Memory, memory, gatheredList, ended, dropped, opened, withPages, gatheredTo, filledTo, published, identityRequest}
 use Rattle.laptop.specs.declared.Candidate.the-variants.{Absent, Open, Done}
 use Rattle.laptop.specs.declared.Laptop.{Laptop}

@@ -18,7 +18,7 @@ use Rattle.dock.specs.declared.Standing.{Standing}
 use Rattle.dock.specs.declared.Standing.the-variants.{Ready, Asking, Sending}
 use Rattle.catalogue.specs.Bytes.{holding as holds}
 use Rattle.laptop.specs.Catalogue.{modesAt}
-use Rattle.laptop.specs.Owner.{discover, requestMessage}
+use Rattle.owner.specs.Owner.{discover, requestMessage}
 use Rattle.laptop.specs.State.{Memory, identityRequest}
 use Rattle.laptop.specs.declared.Candidate.{Candidate}
 use Rattle.laptop.specs.declared.Candidate.the-variants.{Absent, Open, Done}

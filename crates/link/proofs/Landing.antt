@@ -15,7 +15,7 @@ use Rattle.dock.specs.declared.Standing.{Standing}
 use Rattle.catalogue.specs.Bytes.{holding as holds}
 use Rattle.laptop.specs.Calls.{refusedBy, turnedTo}
 use Rattle.hearing.specs.Hearing.{Result, only, fits, isOpen, isLatePage}
-use Rattle.laptop.specs.Owner.{isAbsent}
+use Rattle.owner.specs.Owner.{isAbsent}
 use Rattle.laptop.specs.State.{Memory, ended, dropped}
 use Rattle.laptop.specs.declared.Candidate.{Candidate}
 use Rattle.laptop.specs.declared.Candidate.the-variants.{Absent, Open, Done}

@@ -16,7 +16,7 @@ use Rattle.dock.specs.declared.Standing.{Standing}
 use Rattle.dock.specs.declared.Standing.the-variants.{Ready}
 use Rattle.laptop.specs.Calls.{Decision, sends, isAwaiting}
 use Rattle.laptop.specs.Calls.{stepOf as Laptop·stepOf}
-use Rattle.laptop.specs.Owner.{requestMessage}
+use Rattle.owner.specs.Owner.{requestMessage}
 use Rattle.laptop.specs.State.{ended, dropped, awaiting, identityRequest, identityAsked}
 use Rattle.laptop.specs.declared.Candidate.{Candidate}
 use Rattle.laptop.specs.declared.Candidate.the-variants.{Absent}

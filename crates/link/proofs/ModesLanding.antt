@@ -20,7 +20,7 @@ use Rattle.laptop.specs.Calls.{turnedTo}
 use Rattle.laptop.specs.Catalogue.{Entry, modesAt, entriesFrom}
 use Rattle.hearing.specs.Answers.{filling, copied}
 use Rattle.hearing.specs.Hearing.{Result, withFilling, hearAnswer}
-use Rattle.laptop.specs.Owner.{discover}
+use Rattle.owner.specs.Owner.{discover}
 use Rattle.laptop.specs.State.{Memory, memory, filledTo, published}
 use Rattle.laptop.specs.declared.Candidate.{Candidate}
 use Rattle.laptop.specs.declared.Candidate.the-variants.{Done}

@@ -17,7 +17,7 @@ use Rattle.dock.specs.declared.Dock.{Dock}
 use Rattle.dock.specs.declared.Policy.{Policy}
 use Rattle.dock.specs.declared.Policy.the-variants.{Give, Nak, Busy}
 use Rattle.dock.specs.declared.Standing.the-variants.{Asking, Sending}
-use Rattle.laptop.specs.Owner.{discover}
+use Rattle.owner.specs.Owner.{discover}
 use Rattle.laptop.specs.State.{identityRequest}
 use Rattle.link.specs.Link.{isFair, brought}
 use Rattle.link.proofs.Course.{FairAnswer, identityAck, pageAck, modesAck, modeAck, listNak, busyTo, isPage}

@@ -27,7 +27,7 @@ use Rattle.laptop.specs.Catalogue.{Entry, entriesFrom, heldList}
 use Rattle.hearing.specs.Answers.{turnedDown, copied}
 use Rattle.hearing.specs.Hearing.{Result, only, fits, isOpen, hearAnswer}
 use Rattle.laptop.specs.Marks.{marksAfter}
-use Rattle.laptop.specs.Owner.{discover}
+use Rattle.owner.specs.Owner.{discover}
 use Rattle.laptop.specs.State.{Memory, memory, gatheredList, ended, dropped, opened, gatheredTo, published, identityRequest}
 use Rattle.laptop.specs.declared.Candidate.{Candidate}
 use Rattle.laptop.specs.declared.Candidate.the-variants.{Absent, Open, Done}

@@ -12,16 +12,16 @@ use borrow.Author.Tests.{ltb-true, ltb-false}
 use Rattle.messages.specs.Requests.{svidsCommand}
 use Rattle.messages.specs.Table.{pdSid}
 use Rattle.pages.specs.Pages.{halves, page, isLast}
-use Rattle.pages.specs.Taking.{verdict}
-use Rattle.pages.specs.declared.taking.Verdict.the-variants.{Repeat, More, Ends}
-use Rattle.pages.proofs.Sizes.{more-fits, ends-fits}
+use Rattle.taking.specs.Taking.{verdict}
+use Rattle.taking.specs.declared.Verdict.the-variants.{Repeat, More, Ends}
+use Rattle.taking.proofs.Sizes.{more-fits, ends-fits}
 use Rattle.dock.specs.Data.{listed}
 use Rattle.dock.specs.declared.Dock.{Dock}
 use Rattle.dock.specs.declared.Standing.{Standing}
 use Rattle.laptop.specs.Calls.{refusedBy, turnedTo}
 use Rattle.gathering.specs.Gathering.{Gathering, gathering}
 use Rattle.hearing.specs.Hearing.{Result, fits, withGathering, hearAnswer}
-use Rattle.laptop.specs.Owner.{isAbsent, discover}
+use Rattle.owner.specs.Owner.{isAbsent, discover}
 use Rattle.laptop.specs.State.{Memory, gatheredList, ended, dropped, withPages, gatheredTo}
 use Rattle.laptop.specs.declared.Candidate.{Candidate}
 use Rattle.laptop.specs.declared.Candidate.the-variants.{Open, Done}

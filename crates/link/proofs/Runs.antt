@@ -17,7 +17,7 @@ use Rattle.dock.specs.declared.Standing.the-variants.{Ready, Asking, Sending}
 use Rattle.catalogue.specs.Bytes.{holding as holds}
 use Rattle.laptop.specs.Calls.{Decision, sends, refusedBy, sentBy, stepOf}
 use Rattle.hearing.specs.Hearing.{isLatePage, heard}
-use Rattle.laptop.specs.Owner.{isAbsent, requestMessage}
+use Rattle.owner.specs.Owner.{isAbsent, requestMessage}
 use Rattle.laptop.specs.State.{Memory, ended, awaiting, identityRequest, identityAsked}
 use Rattle.laptop.specs.declared.Candidate.the-variants.{Absent}
 use Rattle.laptop.specs.declared.Laptop.{Laptop}

@@ -13,7 +13,7 @@ use Rattle.dock.specs.declared.Dock.{Dock}
 use Rattle.dock.specs.declared.Policy.the-variants.{Give, Nak}
 use Rattle.dock.specs.declared.Standing.{Standing as Dock·Standing}
 use Rattle.dock.specs.declared.Standing.the-variants.{Ready, Asking, Sending}
-use Rattle.laptop.specs.Owner.{discover, requestMessage}
+use Rattle.owner.specs.Owner.{discover, requestMessage}
 use Rattle.laptop.specs.State.{Memory, memory, identityRequest, freshLaptop}
 use Rattle.laptop.specs.declared.Candidate.{Candidate}
 use Rattle.laptop.specs.declared.Candidate.the-variants.{Absent, Open, Done as ListDone}

@@ -22,7 +22,7 @@ use Rattle.catalogue.specs.Bytes.{HeldCatalogue, heldCatalogue}
 use Rattle.catalogue.specs.Bytes.{holding as holds}
 use Rattle.laptop.specs.Catalogue.{Entry, Catalogue}
 use Rattle.hearing.specs.Hearing.{fits, isLatePage}
-use Rattle.laptop.specs.Owner.{isAbsent, requestMessage}
+use Rattle.owner.specs.Owner.{isAbsent, requestMessage}
 use Rattle.laptop.specs.State.{gatheredList, identityRequest}
 use Rattle.laptop.specs.declared.Candidate.the-variants.{Done}
 use Rattle.laptop.specs.declared.Laptop.{Laptop}

@@ -152,7 +152,7 @@ fn send(state: State, policy: Policy, request: Request, objects: &[u32]) -> Outc
     let dock = state.dock;
     let link = state.link;
     let mut bytes = [0u8; ANSWER];
-    let step = dock::answer(dock, policy, request, objects, &mut bytes);
+    let step = answering::answer(dock, policy, request, objects, &mut bytes);
     if step.refusal != 0 {
         return with_dock(state, step);
     }

@@ -34,11 +34,11 @@ fn exchange(dock: Dock, command: u8) -> Dock {
     let none = [0u32; 0];
     let mut nothing = [0u8; 0];
     let mut bytes = [0u8; 4];
-    messages::write(head_for(request, REQ), &none, &mut bytes);
+    writing::write(head_for(request, REQ), &none, &mut bytes);
     let step = dock::message(dock, &bytes, &mut nothing);
     let dock = step.dock;
     let mut answer = [0u8; 28];
-    let step = dock::answer(dock, Policy::Give, request, &none, &mut answer);
+    let step = answering::answer(dock, Policy::Give, request, &none, &mut answer);
     let dock = step.dock;
     let step = dock::sent(dock);
     step.dock
@@ -58,7 +58,7 @@ fn turned(dock: Dock, pages: u8) -> Dock {
 fn old_dock() -> Dock {
     let identity = [1u32, 2, 3];
     let svids = [OLD_SVID];
-    let step = dock::load(dock::fresh(), &identity, &svids);
+    let step = loading::load(dock::fresh(), &identity, &svids);
     step.dock
 }
 

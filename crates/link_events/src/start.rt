@@ -129,7 +129,7 @@ pub fn read_start(counts: &mut [u8; 72], words: &mut [u32; RUN_WORDS]) -> Start 
     if !read_modes(length_of(count), counts, words) {
         return bad();
     }
-    let step = dock::load(
+    let step = loading::load(
         dock::fresh(),
         first_objects(&identity, length_of(objects)),
         first_svids(&svids, length_of(count)),

@@ -1,19 +1,16 @@
-// Structured VDMs of USB Power Delivery, read from bytes and written as bytes: document 01, "Message layout".
-mod from_bytes;
+// Structured VDMs of USB Power Delivery: document 01, "Message layout". What a message is made of, and the table. `reading` reads one off bytes,
+// `writing` writes one.
 mod object;
 mod request;
 mod table;
-mod to_bytes;
 
-pub use from_bytes::number;
-pub use from_bytes::read;
 pub use object::bytes_of;
 pub use object::first_objects;
 pub use request::Request;
 pub use request::head_for;
 pub use request::request_of;
 pub use request::same_request;
-pub use to_bytes::write;
+pub use table::shape;
 
 // What a VDM header says, its version left out. 01's types are numbers here: REQ, ACK, NAK, BUSY.
 pub struct Head {

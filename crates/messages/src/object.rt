@@ -1,26 +1,7 @@
-// An object among bytes: 32 bits, least significant byte first.
+// An object as bytes, least significant byte first, and the first of some objects.
 ghost use mathlib.Core.Path.{_≡_};
-ghost use Prim.Native.Nat.{_<_};
-ghost use lib.ListN.{getD, take};
-ghost use Rattle.messages.specs.Layout.{objectOf, objectsOf, bytesOfObject};
-
-fn joined(a: u8, b: u8, c: u8, d: u8) -> u32
-    ensures { λ r. ⌜ r ≡ objectOf a b c d ⌝ }
-{
-    (a as u32) + (b as u32) * 256 + (c as u32) * 65536 + (d as u32) * 16777216
-}
-
-// Object i, counted from 0; 0 where the bytes end before it does.
-pub(crate) fn object_at(bytes: &[u8], i: usize) -> u32
-    requires { ⌜ i < 7 ⌝ }
-    ensures { λ r. ⌜ r ≡ getD (objectsOf (now (bytes .entry))) i 0 ⌝ }
-{
-    let at = i * 4;
-    if at + 4 <= bytes.len() {
-        return joined(bytes[at], bytes[at + 1], bytes[at + 2], bytes[at + 3]);
-    }
-    0
-}
+ghost use lib.ListN.{take};
+ghost use Rattle.messages.specs.Layout.{bytesOfObject};
 
 pub fn bytes_of(object: u32) -> [u8; 4]
     ensures { λ r. ⌜ r ≡ bytesOfObject object ⌝ }

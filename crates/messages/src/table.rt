@@ -5,8 +5,14 @@ ghost use Prim.Native.Nat.{_/_, _%_, _<_};
 ghost use lib.Dec.{eqb};
 ghost use Rattle.messages.specs.Table.{rowOf, countsOf};
 ghost use Rattle.messages.specs.Table.{fits as Table·fits, shape as Table·shape};
+use crate::ATTENTION;
+use crate::ENTER;
+use crate::EXIT;
 use crate::Head;
+use crate::IDENTITY;
+use crate::MODES;
 use crate::PD_SID;
+use crate::SVIDS;
 
 // What a command's messages look like. The object counts, the header counted, stand as two hexadecimal digits a type, least and most,
 // BUSY first: 0x11114711 is BUSY 1..1, NAK 1..1, ACK 4..7, REQ 1..1; 1..0 is none. One number is one load, and its digits need no branch.
@@ -24,71 +30,74 @@ const COMMANDS: u8 = 32;
 
 const TYPES: u8 = 4;
 
-// By command. The row of command 0 is also that of 7..31.
-const ROWS: [Row; 7] = [
-    Row {
-        counts: 0x10111017,
-        lowest: 0,
-        highest: HIGHEST_SVID,
-        first: 0,
-        last: 7,
-    },
-    Row {
-        counts: 0x11114711,
-        lowest: PD_SID,
-        highest: PD_SID,
-        first: 0,
-        last: 0,
-    },
-    Row {
-        counts: 0x11112711,
-        lowest: PD_SID,
-        highest: PD_SID,
-        first: 0,
-        last: 0,
-    },
-    Row {
-        counts: 0x11112711,
-        lowest: 1,
-        highest: HIGHEST_SVID,
-        first: 0,
-        last: 0,
-    },
-    Row {
-        counts: 0x11111112,
-        lowest: 1,
-        highest: HIGHEST_SVID,
-        first: 1,
-        last: 6,
-    },
-    Row {
-        counts: 0x11111111,
-        lowest: 1,
-        highest: HIGHEST_SVID,
-        first: 1,
-        last: 7,
-    },
-    Row {
-        counts: 0x10101012,
-        lowest: 1,
-        highest: HIGHEST_SVID,
-        first: 1,
-        last: 6,
-    },
-];
+// The table: a row for each command that has one of its own, and one for command 0 and 7..31.
+const OTHER_ROW: Row = Row {
+    counts: 0x10111017,
+    lowest: 0,
+    highest: HIGHEST_SVID,
+    first: 0,
+    last: 7,
+};
 
-// A literal index in each arm: the table is then never built on the stack.
+const IDENTITY_ROW: Row = Row {
+    counts: 0x11114711,
+    lowest: PD_SID,
+    highest: PD_SID,
+    first: 0,
+    last: 0,
+};
+
+const SVIDS_ROW: Row = Row {
+    counts: 0x11112711,
+    lowest: PD_SID,
+    highest: PD_SID,
+    first: 0,
+    last: 0,
+};
+
+const MODES_ROW: Row = Row {
+    counts: 0x11112711,
+    lowest: 1,
+    highest: HIGHEST_SVID,
+    first: 0,
+    last: 0,
+};
+
+const ENTER_ROW: Row = Row {
+    counts: 0x11111112,
+    lowest: 1,
+    highest: HIGHEST_SVID,
+    first: 1,
+    last: 6,
+};
+
+const EXIT_ROW: Row = Row {
+    counts: 0x11111111,
+    lowest: 1,
+    highest: HIGHEST_SVID,
+    first: 1,
+    last: 7,
+};
+
+const ATTENTION_ROW: Row = Row {
+    counts: 0x10101012,
+    lowest: 1,
+    highest: HIGHEST_SVID,
+    first: 1,
+    last: 6,
+};
+
 fn row_of(command: u8) -> Row
     ensures { λ r. ⌜ r ≡ rowOf command ⌝ }
 {
     match command {
-        1 => ROWS[1],
-        2 => ROWS[2],
-        3 => ROWS[3],
-        4 => ROWS[4],
-        5 => ROWS[5],
-        6 => ROWS[6],
-        _ => ROWS[0],
+        IDENTITY => IDENTITY_ROW,
+        SVIDS => SVIDS_ROW,
+        MODES => MODES_ROW,
+        ENTER => ENTER_ROW,
+        EXIT => EXIT_ROW,
+        ATTENTION => ATTENTION_ROW,
+        _ => OTHER_ROW,
     }
 }
 
@@ -138,7 +147,7 @@ fn fits(row: Row, head: Head, count: u8) -> bool
 }
 
 // Do a head and a number of objects, the header counted, fit the command's row?
-pub(crate) fn shape(head: Head, count: u8) -> bool
+pub fn shape(head: Head, count: u8) -> bool
     ensures { λ r. ⌜ r ≡ Table·shape head count ⌝ }
 {
     let command = head.command;

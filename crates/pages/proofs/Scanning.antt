@@ -1,15 +1,17 @@
 -- Scanning a list, one element after the other.
 use mathlib.Core.Path.{_≡_, refl, ap, _∙_}
 use mathlib.Core.Bool.{Bool, true, false, not, _&&_, _||_}
-use mathlib.Core.List.{List, _∷_}
-use Prim.Native.Nat.{ℕ, _+_, _-_, _<_, _≤_}
+use mathlib.Core.List.{List, [], _∷_}
+use Prim.Native.Nat.{ℕ, zero, suc, _+_, _-_, _<_, _≤_}
 use native.Mathlib.Numerals.{add-one}
 use native.Mathlib.Omega.{arith}
 use lib.Dec.{eqb}
 use lib.ListN.{length, getD, take, drop, drop-of-length-le, length-drop}
 use lib.Seq.{drop-cons, take-all}
-use borrow.Author.Tests.{eq-eqb, ne-eqb}
+use borrow.Author.Tests.{eq-eqb, ne-eqb, eqb-false, not-true}
+use Rattle.laws.proofs.Lines.{and-left, and-right}
 use Rattle.pages.specs.Lists.{isIn, soundList}
+use Rattle.pages.specs.Pages.{NoZero}
 
 module _ (l : List ℕ) (i : ℕ) (h : i < length l) where
   pub next : drop i l ≡ getD l i 0 ∷ drop (i + 1) l
@@ -55,3 +57,12 @@ sound-none l i h = ap soundList (drop-of-length-le l h)
 -- a part to the end
 pub rest-part : (l : List ℕ) (i : ℕ) → take (length l - i) (drop i l) ≡ drop i l
 rest-part l i = take-all (length l - i) (drop i l) (omega (arith, length-drop i l))
+
+pub sound-no-zero : (list : List ℕ) → soundList list ≡ true → NoZero list
+unfolding soundList
+sound-no-zero [] e k h z = omega arith
+sound-no-zero (s ∷ list) e zero h z =
+    eqb-false s 0 (not-true (eqb s 0) (and-left (not (eqb s 0)) (not (isIn s list) && soundList list) e)) z
+sound-no-zero (s ∷ list) e (suc k) h z =
+    sound-no-zero list (and-right (not (isIn s list)) (soundList list) (and-right (not (eqb s 0)) (not (isIn s list) && soundList list) e)) k
+    (omega arith) z

@@ -1,12 +1,9 @@
-// The pages of a list of SVIDs: twelve a page, two an object.
+// The pages of a list of SVIDs: twelve a page, two an object. `taking` takes one.
 mod list;
-mod taking;
 
 pub use list::first_svids;
 pub use list::is_in;
 pub use list::sound;
-pub use taking::Verdict;
-pub use taking::judge;
 ghost use mathlib.Core.Path.{_≡_};
 ghost use Prim.Native.Nat.{_<_};
 ghost use lib.ListN.{getD};
@@ -18,7 +15,7 @@ pub struct Page {
     pub count: u8,
 }
 
-const PER_PAGE: usize = 12;
+pub const PER_PAGE: usize = 12;
 
 pub const MOST_SVIDS: usize = 72;
 

@@ -62,6 +62,6 @@ pub fn answer(number: u64) -> bool {
     if !fill(message) {
         return false;
     }
-    print_answer(number, messages::read(message));
+    print_answer(number, reading::read(message));
     true
 }

@@ -51,7 +51,7 @@ fn print_answer(number: u64, refusal: u8, output: &[u8]) {
 fn write_and_print(number: u64, head: Head, objects: &[u32], room: u8) {
     let mut buffer = [UNWRITTEN; GREATEST];
     let output = &mut buffer[0..length_of(room)];
-    let refusal = messages::write(head, objects, output);
+    let refusal = writing::write(head, objects, output);
     print_answer(number, refusal, output);
 }
 

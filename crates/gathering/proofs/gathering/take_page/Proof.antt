@@ -3,7 +3,7 @@ use mathlib.Core.Path.{ap, sym, _∙_}
 use native.Mathlib.Omega.{arith}
 use lib.ListN.{length}
 use lib.Seq.{sets, length-take-le}
-use Rattle.pages.proofs.Sizes.{more-fits, ends-fits}
+use Rattle.taking.proofs.Sizes.{more-fits, ends-fits}
 use Rattle.laptop.specs.Calls.{refusedBy, turnedTo}
 use Rattle.laptop.specs.declared.Told.the-variants.{Nothing}
 use Rattle.gathering.proofs.Listing.{take-bad, take-repeat, take-repeat-last, take-full, take-full-last, take-ending, parts}

@@ -1,5 +1,5 @@
 -- `short_runs` meets its promise.
-use Rattle.laptop.proofs.Asking.{short-first, short-second}
+use Rattle.laptop.proofs.Steps.{short-first, short-second}
 use Rattle.laptop.proofs.settling.short_runs.Statement.{statement}
 use Rattle.laptop.proofs.settling.short_runs.Tie as tie
 

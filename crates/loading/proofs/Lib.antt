@@ -1,0 +1,2 @@
+-- Laws on filling an array.
+mod Lists

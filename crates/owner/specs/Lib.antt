@@ -1,0 +1,2 @@
+-- Document 01, "Owner's calls".
+pub mod Owner

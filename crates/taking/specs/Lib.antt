@@ -1,0 +1,2 @@
+-- Document 01, "Taking a page".
+pub mod Taking

@@ -58,7 +58,7 @@ pub extern "C" fn laptop_enter(
     handed: &mut [u32; 7],
 ) -> u8 {
     let before = *state;
-    let step = owner::enter(
+    let step = modes::enter(
         laptop_from(before),
         svid,
         position,
@@ -86,7 +86,7 @@ pub extern "C" fn laptop_exit(
     handed: &mut [u32; 7],
 ) -> u8 {
     let before = *state;
-    let step = owner::exit(
+    let step = modes::exit(
         laptop_from(before),
         svid,
         position,

@@ -5,23 +5,23 @@ use crate::told::hand_over;
 #[no_mangle]
 pub extern "C" fn laptop_response_timer(state: &mut [u16; 12], handed: &mut [u32; 7]) -> u8 {
     let before = *state;
-    hand_over(laptop::response_timer(laptop_from(before)), state, handed)
+    hand_over(timers::response_timer(laptop_from(before)), state, handed)
 }
 
 #[no_mangle]
 pub extern "C" fn laptop_entry_timer(state: &mut [u16; 12], handed: &mut [u32; 7]) -> u8 {
     let before = *state;
-    hand_over(laptop::entry_timer(laptop_from(before)), state, handed)
+    hand_over(timers::entry_timer(laptop_from(before)), state, handed)
 }
 
 #[no_mangle]
 pub extern "C" fn laptop_exit_timer(state: &mut [u16; 12], handed: &mut [u32; 7]) -> u8 {
     let before = *state;
-    hand_over(laptop::exit_timer(laptop_from(before)), state, handed)
+    hand_over(timers::exit_timer(laptop_from(before)), state, handed)
 }
 
 #[no_mangle]
 pub extern "C" fn laptop_protocol_error(state: &mut [u16; 12], handed: &mut [u32; 7]) -> u8 {
     let before = *state;
-    hand_over(laptop::protocol_error(laptop_from(before)), state, handed)
+    hand_over(timers::protocol_error(laptop_from(before)), state, handed)
 }

@@ -53,11 +53,11 @@ pub fn make_call(
         Call::Next => owner::next(laptop, svids, entered, run, held_run, out),
         Call::StartOver => owner::start_over(laptop, entered, run, held_run, out),
         Call::Drop => owner::drop(laptop, run, held_run, out),
-        Call::ResponseTimer => laptop::response_timer(laptop),
-        Call::EntryTimer => laptop::entry_timer(laptop),
-        Call::ExitTimer => laptop::exit_timer(laptop),
-        Call::ProtocolError => laptop::protocol_error(laptop),
-        Call::Enter(mode) => owner::enter(
+        Call::ResponseTimer => timers::response_timer(laptop),
+        Call::EntryTimer => timers::entry_timer(laptop),
+        Call::ExitTimer => timers::exit_timer(laptop),
+        Call::ProtocolError => timers::protocol_error(laptop),
+        Call::Enter(mode) => modes::enter(
             laptop,
             mode.svid,
             mode.position,
@@ -68,7 +68,7 @@ pub fn make_call(
             held_run,
             out,
         ),
-        Call::Exit(mode) => owner::exit(
+        Call::Exit(mode) => modes::exit(
             laptop,
             mode.svid,
             mode.position,

@@ -2,4 +2,3 @@
 pub mod HeldList
 pub mod Marking
 pub mod Steps
-pub mod Waiting

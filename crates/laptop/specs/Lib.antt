@@ -3,4 +3,3 @@ pub mod Calls
 pub mod Catalogue
 pub mod Marks
 pub mod State
-pub mod Timers

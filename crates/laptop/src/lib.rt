@@ -1,5 +1,5 @@
-// The laptop end (Initiator): its state, the timers, and the report of entered modes. Document 01, "The laptop end". `owner` has the owner's calls,
-// `hearing` the message that arrives.
+// The laptop end (Initiator): its state, what every call is made of, and the report of entered modes. Document 01, "The laptop end". `owner` and `modes`
+// have the owner's calls, `timers` the timers, `hearing` the message that arrives.
 //
 // What is small goes by value in a `Laptop`. Lent beside it, in arrays that every call leaves as its promise says: the candidate's SVIDs, the
 // number of modes of each and its identity objects; the same of the held catalogue; the entered modes of each held SVID, a bit for each
@@ -7,7 +7,6 @@
 mod marks;
 mod places;
 mod settling;
-mod timers;
 
 pub use marks::marked;
 pub use marks::named;
@@ -23,10 +22,6 @@ pub use settling::fresh;
 pub use settling::refused;
 pub use settling::short_runs;
 pub use settling::turned;
-pub use timers::entry_timer;
-pub use timers::exit_timer;
-pub use timers::protocol_error;
-pub use timers::response_timer;
 
 // Nothing is awaited, or the answer to a request.
 pub enum Wait {

@@ -16,7 +16,7 @@ use Rattle.laptop.specs.Catalogue.{heldList}
 use Rattle.laptop.specs.Marks.{placeOf, isEntered}
 use Rattle.owner.specs.Owner.{ownerRefusal, anyEntered, askingRefusal, asksNext, decideNext, decideStartOver, decideDrop, hasMode, isAbsent, decideEnter, exitRefusal, decideExit}
 use Rattle.laptop.specs.State.{Memory, ended, dropped, awaiting, identityAsked, freshLaptop}
-use Rattle.laptop.specs.Timers.{over, decideTimer, decideError}
+use Rattle.timers.specs.Timers.{over, decideTimer, decideError}
 use Rattle.laptop_laws.specs.WellFormed.{Lent, WaitFits, awaitsIdentity, isAsking, WellFormed}
 use Rattle.laptop.specs.declared.Candidate.{Candidate}
 use Rattle.laptop.specs.declared.Candidate.the-variants.{Absent, Open, Done}

@@ -26,7 +26,7 @@ use Rattle.hearing.specs.Hearing.{Result, isIdle, isOpen, hearRequest, fits, is
 use Rattle.laptop.specs.Marks.{placeOf, isEntered}
 use Rattle.owner.specs.Owner.{ownerRefusal, anyEntered, askingRefusal, asksNext, decideNext, decideStartOver, decideDrop, hasMode, isAbsent, enterRefusal, decideEnter, exitRefusal, decideExit}
 use Rattle.laptop.specs.State.{Memory, dropped, counted, published}
-use Rattle.laptop.specs.Timers.{over, decideTimer, decideError}
+use Rattle.timers.specs.Timers.{over, decideTimer, decideError}
 use Rattle.laptop.specs.declared.Candidate.{Candidate}
 use Rattle.laptop.specs.declared.Candidate.the-variants.{Absent, Open, Done}
 use Rattle.laptop.specs.declared.Laptop.{Laptop}

@@ -24,7 +24,7 @@ use Rattle.hearing.specs.Hearing.{Result, hearRequest, fits, isLatePage, hearUn
 use Rattle.laptop_laws.specs.Holding.{Holding, holding, candidateHeld, KeptOrPublished}
 use Rattle.owner.specs.Owner.{asksNext, decideNext, decideStartOver, decideDrop, decideEnter, decideExit}
 use Rattle.laptop.specs.State.{Memory, memory, withPages, counted}
-use Rattle.laptop.specs.Timers.{over, decideTimer, decideError}
+use Rattle.timers.specs.Timers.{over, decideTimer, decideError}
 use Rattle.laptop.specs.declared.Candidate.{Candidate}
 use Rattle.laptop.specs.declared.Candidate.the-variants.{Absent, Open, Done}
 use Rattle.laptop.specs.declared.Held.{Held}

@@ -7,7 +7,7 @@ use Rattle.laptop.specs.Calls.{Decision, stepOf, bufferOf}
 use Rattle.hearing.specs.Hearing.{heard}
 use Rattle.owner.specs.Owner.{decideNext, decideStartOver, decideDrop, decideEnter, decideExit}
 use Rattle.laptop.specs.State.{Memory}
-use Rattle.laptop.specs.Timers.{decideTimer, decideError}
+use Rattle.timers.specs.Timers.{decideTimer, decideError}
 use Rattle.laptop.specs.declared.Laptop.{Laptop}
 use Rattle.laptop.specs.declared.Step.{Step}
 

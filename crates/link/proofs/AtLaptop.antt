@@ -17,7 +17,7 @@ use Rattle.dock.specs.declared.Standing.{Standing}
 use Rattle.laptop.specs.Calls.{Decision, refuses, turns, sends, stepOf, unless, isAwaiting}
 use Rattle.owner.specs.Owner.{discover, requestMessage, asksNext, decideNext, decideStartOver, decideDrop, decideEnter, decideExit}
 use Rattle.laptop.specs.State.{Memory, ended, dropped, awaiting, identityRequest, identityAsked}
-use Rattle.laptop.specs.Timers.{over, decideTimer, decideError}
+use Rattle.timers.specs.Timers.{over, decideTimer, decideError}
 use Rattle.laptop.specs.declared.Candidate.{Candidate}
 use Rattle.laptop.specs.declared.Candidate.the-variants.{Absent, Open, Done}
 use Rattle.laptop.specs.declared.Laptop.{Laptop}

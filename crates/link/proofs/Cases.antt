@@ -18,7 +18,7 @@ use Rattle.laptop.specs.Catalogue.{modesNumber, modesAt, entriesFrom}
 use Rattle.hearing.specs.Hearing.{isLatePage, hearUnawaited, settledStep, settledList, settledRun, hearAnswer, hear, heard}
 use Rattle.owner.specs.Owner.{ownerRefusal, anyEntered, askingRefusal, asksNext, decideNext}
 use Rattle.laptop.specs.State.{counted}
-use Rattle.laptop.specs.Timers.{over, decideTimer}
+use Rattle.timers.specs.Timers.{over, decideTimer}
 use Rattle.catalogue.specs.Bytes.{svidBytes, modeBytes, modesBytes, entryBytes, entriesBytes, catalogueBytes, heldBytes}
 use Rattle.link.specs.Link.{wayAfter, called, handedOver, isFair, brought, isUnsure, opens, step, run}
 use Rattle.link.specs.Cases.{dockOf, asked, offer, confirmed, shown, answers, told, after, heldAt, nakAfterPage, counts, cases, line, lines, caseL, seen, ran, runs, given, said}

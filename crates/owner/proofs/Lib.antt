@@ -1,3 +1,2 @@
--- Laws on the owner's calls, a file for each sort.
+-- Laws on the owner's calls.
 pub mod Asking
-pub mod Entering

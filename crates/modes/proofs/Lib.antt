@@ -1,0 +1,2 @@
+-- Laws on entering and exiting modes.
+mod Entering

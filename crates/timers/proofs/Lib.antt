@@ -1,0 +1,2 @@
+-- Laws on timers.
+pub mod Waiting

@@ -1,0 +1,2 @@
+-- Document 01, "The laptop end": timers.
+pub mod Timers

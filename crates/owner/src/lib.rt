@@ -64,7 +64,7 @@ fn asking_refusal(laptop: Laptop, entered: &[u8; 72], run: &[u32], held_run: &[u
     0
 }
 
-pub fn awaiting(request: Request, laptop: Laptop) -> Laptop
+fn awaiting(request: Request, laptop: Laptop) -> Laptop
     ensures { λ r. ⌜ r ≡ State·awaiting request laptop ⌝ }
 {
     Laptop {
@@ -74,7 +74,7 @@ pub fn awaiting(request: Request, laptop: Laptop) -> Laptop
 }
 
 // Sends a request; a buffer that is too short is refused, and the laptop stays as it was.
-pub fn send(laptop: Laptop, after: Laptop, request: Request, out: &mut [u8]) -> Step
+fn send(laptop: Laptop, after: Laptop, request: Request, out: &mut [u8]) -> Step
     ensures { λ r. ⌜ Stepped laptop (sends (requestMessage request) after) (now (out .entry)) r (now (out .exit)) ⌝ }
 {
     let none = [0u32; 0];

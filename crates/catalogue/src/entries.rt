@@ -36,7 +36,7 @@ fn modes_number(modes: &[u8], i: usize) -> usize
 }
 
 // The modes of the SVID at place i, by their numbers and the run.
-fn modes_at<'a>(modes: &[u8], run: &'a [u32], i: usize) -> &'a [u32]
+fn modes_at<'a>(modes: &[u8; 72], run: &'a [u32], i: usize) -> &'a [u32]
     requires { ⌜ i * modesEach + modesEach ≤ length (now run) ⌝ }
     ensures { λ r. ⌜ now r ≡ modesAt (now (modes .entry)) (now (run .entry)) i ⌝ }
 {
@@ -50,7 +50,7 @@ pub(crate) fn put_entries(
     out: &mut [u8],
     start: usize,
     svids: &[u16],
-    modes: &[u8],
+    modes: &[u8; 72],
     run: &[u32],
 ) -> usize
     requires { ⌜ (length (now svids) ≤ mostSvids)
@@ -68,7 +68,7 @@ pub(crate) fn put_entries(
 }
 
 // The bytes that SVIDs with their modes take.
-pub(crate) fn entries_length(svids: &[u16], modes: &[u8], run: &[u32]) -> usize
+pub(crate) fn entries_length(svids: &[u16], modes: &[u8; 72], run: &[u32]) -> usize
     requires { ⌜ (length (now svids) ≤ mostSvids) × (runWords ≤ length (now run)) ⌝ }
     ensures { λ r. ⌜ r ≡ length (entriesBytes (entriesFrom 0 (now (svids .entry)) (now (modes .entry)) (now (run .entry)))) ⌝ }
 {

@@ -30,7 +30,7 @@ pub struct Bytes {
 const END_KIND: u64 = 0x00;
 
 // How many bytes a catalogue takes.
-fn catalogue_length(objects: &[u32], svids: &[u16], modes: &[u8], run: &[u32]) -> usize
+fn catalogue_length(objects: &[u32], svids: &[u16], modes: &[u8; 72], run: &[u32]) -> usize
     requires { ⌜ (length (now objects) ≤ mostObjects) × (length (now svids) ≤ mostSvids) × (runWords ≤ length (now run)) ⌝ }
     ensures { λ r. ⌜ (r ≡ length (catalogueBytes (catalogueOf (now (objects .entry)) (now (svids .entry)) (now (modes .entry)) (now (run .entry)))))
         × (r ≤ mostBytes) ⌝ }
@@ -39,7 +39,7 @@ fn catalogue_length(objects: &[u32], svids: &[u16], modes: &[u8], run: &[u32]) -
 }
 
 // The kind of an identity is the number of its objects.
-fn put_catalogue(out: &mut [u8], objects: &[u32], svids: &[u16], modes: &[u8], run: &[u32])
+fn put_catalogue(out: &mut [u8], objects: &[u32], svids: &[u16], modes: &[u8; 72], run: &[u32])
     requires { ⌜ (length (now objects) ≤ mostObjects) × (length (now svids) ≤ mostSvids) × (runWords ≤ length (now run))
         × (length (catalogueBytes (catalogueOf (now objects) (now svids) (now modes) (now run))) ≤ length (now out)) ⌝ }
     ensures { λ _. ⌜ now (out .exit) ≡ sets (now (out .entry)) 0

@@ -20,7 +20,7 @@ abbrev μ-loop : tie.MeasureT-loop
 
 loop-holds : tie.Need-loop-holds Inv-loop μ-loop
 loop-holds c =
-    let args = c .before .before .before .before .args in
+    let args = c .before .before .before .args in
     let all = entriesBytes (entriesFrom 0 (args .svids .now) (args .modes .now) (args .run .now)) in
     (omega arith, storing-start (args .out .now) (args .start) all _ refl)
 
@@ -35,13 +35,13 @@ modes-at-requires c κs = omega arith
 
 put-entry-requires : tie.Need-put-entry-requires Inv-loop μ-loop
 put-entry-requires c κs =
-    let args = c .before .before .before .before .before .before .before .before .before .args in
+    let args = c .before .before .before .before .before .before .before .before .args in
     let svids = args .svids .now in
     let loop = c .before .before .before .before .loop in
     let words = c .modes-at .result .now in
     let entry : Entry = record { svid = getD svids (loop .i) 0; modes = words } in
     let more = entries-more svids (args .modes .now) (args .run .now) (loop .i) (c .before .before .before .loop-test .taken) words (c .modes-at .ensures) in
-    omega (arith, loop .inv, c .before .before .before .before .before .before .before .before .before .pre, more, length-entry entry)
+    omega (arith, loop .inv, c .before .before .before .before .before .before .before .before .pre, more, length-entry entry)
 
 add-i : tie.Need-add-i Inv-loop μ-loop
 add-i c = omega arith
@@ -51,7 +51,7 @@ loop-less c = omega arith
 
 loop-again : tie.Need-loop-again Inv-loop μ-loop
 loop-again c =
-    let args = c .before .before .before .before .before .before .before .before .before .before .before .before .args in
+    let args = c .before .before .before .before .before .before .before .before .before .before .before .args in
     let svids = args .svids .now in
     let modes = args .modes .now in
     let run = args .run .now in
@@ -67,7 +67,7 @@ same-length c = c .before .loop .inv .1 .kept
 
 returns : tie.Need-returns Inv-loop μ-loop
 returns c =
-    let args = c .before .before .before .before .before .before .args in
+    let args = c .before .before .before .before .before .args in
     let loop = c .before .loop in
     storing-end (loop .inv .1) (entries-end (args .svids .now) (args .modes .now) (args .run .now) (loop .i) (c .loop-test .left))
 

@@ -10,18 +10,28 @@ use Rattle.messages.proofs.Objects.{length-bytes}
 use Rattle.pages.proofs.Scanning.{next}
 use Rattle.laptop.specs.Catalogue.{Entry, Catalogue, modesAt, entriesFrom}
 use Rattle.catalogue.proofs.Places.{modes-most}
+use Rattle.catalogue.proofs.Records.{length-low, objects-words}
 use Rattle.catalogue.specs.Bytes.{endKind, svidBytes, modeBytes, modesBytes, entryBytes, entriesBytes, catalogueBytes, Each, SixModes}
+use Rattle.catalogue.specs.Records.{lowFirst, objectSize, wordNumber, wordsBytes}
 
 -- what the loops write next
-pub objects-next : (objects : List ℕ) (i : ℕ) → i < length objects →
-    bytesOf (drop i objects) ≡ bytesOfObject (getD objects i 0) ++ bytesOf (drop (i + 1) objects)
-unfolding bytesOf
-objects-next objects i h = ap bytesOf (next objects i h)
+module _ (size : ℕ) (words : List ℕ) (i : ℕ) where
+  pub words-next : i < length words → (number : ℕ) → number ≡ wordNumber size (getD words i 0) →
+      wordsBytes size (drop i words) ≡ lowFirst size number ++ wordsBytes size (drop (i + 1) words)
+  unfolding wordsBytes
+  words-next h number e =
+      ap (wordsBytes size) (next words i h) ∙ ap (λ (n : ℕ). lowFirst size n ++ wordsBytes size (drop (i + 1) words)) (sym e)
 
-pub modes-next : (modes : List ℕ) (i : ℕ) → i < length modes →
-    modesBytes (drop i modes) ≡ modeBytes (getD modes i 0) ++ modesBytes (drop (i + 1) modes)
-unfolding modesBytes
-modes-next modes i h = ap modesBytes (next modes i h)
+  -- the next word has room where all that is left has
+  pub word-fits : i < length words → size ≤ length (wordsBytes size (drop i words))
+  word-fits h =
+      let one : List ℕ = lowFirst size (wordNumber size (getD words i 0)) in
+      let rest : List ℕ = wordsBytes size (drop (i + 1) words) in
+      omega (arith, ap length (words-next h _ refl), length-append one rest, length-low size (wordNumber size (getD words i 0)))
+
+  pub words-end : length words ≤ i → wordsBytes size (drop i words) ≡ []
+  unfolding wordsBytes
+  words-end h = ap (wordsBytes size) (drop-of-length-le words h)
 
 module _ (svids modes run : List ℕ) (i : ℕ) where
   pub entries-next : i < length svids → (words : List ℕ) → words ≡ modesAt modes run i →
@@ -38,14 +48,6 @@ module _ (svids modes run : List ℕ) (i : ℕ) where
   entries-end h = ap (λ (l : List ℕ). entriesBytes (entriesFrom i l modes run)) (drop-of-length-le svids h)
 
 -- lengths
-pub length-object : (w : ℕ) → length (bytesOfObject w) ≡ 4
-unfolding bytesOfObject
-length-object w = refl
-
-pub length-mode : (mode : ℕ) → length (modeBytes mode) ≡ 5
-unfolding modeBytes bytesOfObject
-length-mode mode = refl
-
 length-modes : (modes : List ℕ) → length (modesBytes modes) ≡ length modes * 5
 unfolding modesBytes modeBytes bytesOfObject
 length-modes [] = refl
@@ -54,6 +56,9 @@ length-modes (mode ∷ modes) = omega (arith, length-modes modes)
 pub length-entry : (entry : Entry) → length (entryBytes entry) ≡ 3 + length (entry .modes) * 5
 unfolding entryBytes svidBytes
 length-entry entry = omega (arith, length-modes (entry .modes))
+
+pub length-objects : (objects : List ℕ) → length (wordsBytes objectSize objects) ≡ length objects * 4
+length-objects objects = omega (arith, ap length (objects-words objects), length-bytes objects)
 
 pub length-catalogue : (c : Catalogue) → length (catalogueBytes c) ≡ length (c .identity) * 4 + length (entriesBytes (c .entries)) + 2
 unfolding catalogueBytes

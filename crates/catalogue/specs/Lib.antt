@@ -1,2 +1,3 @@
 -- Document 01, "Catalogue bytes".
 pub mod Bytes
+pub mod Records

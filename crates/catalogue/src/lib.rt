@@ -1,14 +1,14 @@
 // The held catalogue as bytes. Document 01, "Catalogue bytes".
 ghost use mathlib.Core.Path.{_≡_};
-ghost use Prim.Native.Nat.{_<_, _≤_};
-ghost use lib.ListN.{length, set};
+ghost use Prim.Native.Nat.{_≤_};
+ghost use lib.ListN.{length};
 ghost use lib.Seq.{sets};
 ghost use Rattle.laptop.specs.Catalogue.{runWords};
 ghost use Rattle.pages.specs.Lists.{mostSvids};
-ghost use Rattle.catalogue.specs.Bytes.{endKind, catalogueBytes, catalogueOf, mostObjects, mostBytes, heldCatalogue, CatalogueWritten};
+ghost use Rattle.catalogue.specs.Bytes.{catalogueBytes, catalogueOf, mostObjects, mostBytes, heldCatalogue, CatalogueWritten};
 
 mod entries;
-mod objects;
+mod numbers;
 
 use entries::entries_length;
 use entries::put_entries;
@@ -17,7 +17,9 @@ use laptop::Laptop;
 use laptop::RUN_WORDS;
 use laptop::held_list;
 use messages::first_objects;
-use objects::put_objects;
+use numbers::OBJECT_SIZE;
+use numbers::put_number;
+use numbers::put_words;
 
 // The refusal number, and how many bytes were written.
 pub struct Bytes {
@@ -25,10 +27,10 @@ pub struct Bytes {
     pub length: u16,
 }
 
-const END_KIND: u8 = 0x00;
+const END_KIND: u64 = 0x00;
 
 // How many bytes a catalogue takes.
-fn catalogue_length(objects: &[u32], svids: &[u16], modes: &[u8], run: &[u32]) -> usize
+fn catalogue_length(objects: &[u32], svids: &[u16], modes: &[u8; 72], run: &[u32]) -> usize
     requires { ⌜ (length (now objects) ≤ mostObjects) × (length (now svids) ≤ mostSvids) × (runWords ≤ length (now run)) ⌝ }
     ensures { λ r. ⌜ (r ≡ length (catalogueBytes (catalogueOf (now (objects .entry)) (now (svids .entry)) (now (modes .entry)) (now (run .entry)))))
         × (r ≤ mostBytes) ⌝ }
@@ -37,30 +39,16 @@ fn catalogue_length(objects: &[u32], svids: &[u16], modes: &[u8], run: &[u32]) -
 }
 
 // The kind of an identity is the number of its objects.
-fn identity_kind(objects: &[u32]) -> u8
-    requires { ⌜ length (now objects) ≤ mostObjects ⌝ }
-    ensures { λ r. ⌜ r ≡ length (now (objects .entry)) ⌝ }
-{
-    objects.len() as u8
-}
-
-fn put_end(out: &mut [u8], at: usize)
-    requires { ⌜ at < length (now out) ⌝ }
-    ensures { λ _. ⌜ now (out .exit) ≡ set (now (out .entry)) at endKind ⌝ }
-{
-    out[at] = END_KIND;
-}
-
-fn put_catalogue(out: &mut [u8], objects: &[u32], svids: &[u16], modes: &[u8], run: &[u32])
+fn put_catalogue(out: &mut [u8], objects: &[u32], svids: &[u16], modes: &[u8; 72], run: &[u32])
     requires { ⌜ (length (now objects) ≤ mostObjects) × (length (now svids) ≤ mostSvids) × (runWords ≤ length (now run))
         × (length (catalogueBytes (catalogueOf (now objects) (now svids) (now modes) (now run))) ≤ length (now out)) ⌝ }
     ensures { λ _. ⌜ now (out .exit) ≡ sets (now (out .entry)) 0
         (catalogueBytes (catalogueOf (now (objects .entry)) (now (svids .entry)) (now (modes .entry)) (now (run .entry)))) ⌝ }
 {
-    out[0] = identity_kind(objects);
-    put_objects(out, 1, objects);
-    let end = put_entries(out, objects.len() * 4 + 1, svids, modes, run);
-    put_end(out, end);
+    let first = put_number(out, 0, objects.len() as u64, 1);
+    let second = put_words(out, first, objects, OBJECT_SIZE);
+    let end = put_entries(out, second, svids, modes, run);
+    put_number(out, end, END_KIND, 1);
 }
 
 fn refused(number: u8) -> Bytes

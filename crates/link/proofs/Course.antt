@@ -44,6 +44,29 @@ pub data Carried : Type 0 where
   sure : FairAnswer → Carried
   arrived : Bool → Carried
 
+-- what tells the fates and the standings apart
+abbrev isSure : Carried → Bool
+isSure nothing = false
+isSure (underWay a) = false
+isSure (sure a) = true
+isSure (arrived b) = false
+
+abbrev isArrived : Carried → Bool
+isArrived nothing = false
+isArrived (underWay a) = false
+isArrived (sure a) = false
+isArrived (arrived b) = true
+
+abbrev isReady : Standing → Bool
+isReady Ready = true
+isReady (Asking r) = false
+isReady (Sending t) = false
+
+abbrev sendsPage : Standing → Bool
+sendsPage Ready = false
+sendsPage (Asking r) = false
+sendsPage (Sending t) = t
+
 -- the confirmations lost when nothing more can be heard
 abbrev pub lostThen : Carried → ℕ → ℕ
 lostThen nothing z = z
@@ -158,16 +181,12 @@ module _ (list : List ℕ) where
   pub answered : {g : List ℕ} {k : ℕ} {r : Request} {q : ℕ} {v : Carried} {z : ℕ} → Course g k (Asking r) q v z → (t′ : Standing) (a : FairAnswer) →
       NoSurePage v → Course g k t′ q (underWay a) z
   answered (even x y) t′ a n = even x tt
-  answered {r = r} (undecided a b c e e′) t′ x n = absurd (asking-no r e)
-    where
-      asking-no : (r : Request) → Asking r ≡ Sending true → ⊥
-      asking-no r e = let o : _≡_ {A = ℕ} 0 1 = cc in omega arith
+  answered (undecided a b c e e′) t′ x n = absurd (false≢true (ap sendsPage e))
   answered {v = v} (early p a e e′) t′ x n = absurd (sure-page v p n e)
 
   -- the dock hears "sent" of an answer that has arrived
   page-sent : (t : Bool) → Sending t ≡ Sending true → t ≡ true
-  page-sent true e = refl
-  page-sent false e = cc
+  page-sent t e = ap sendsPage e
 
   next-page : (p : ℕ) → p * 12 + 12 ≡ (p + 1) * 12
   next-page p = omega arith
@@ -182,7 +201,7 @@ module _ (list : List ℕ) where
       subst (λ (x : Bool). Course g k Ready (movesOn x q) nothing z) (sym (page-sent t e))
       (subst (λ (n : ℕ). Course g k Ready n nothing z) (sym (moves-more q (last-no q h)))
       (even (in-step (a ∙ ap (λ (n : ℕ). take n list) (next-page q)) (omega arith) c) tt))
-  confirmed-after (early p a e e′) = let o : _≡_ {A = ℕ} 0 1 = cc in absurd (omega arith)
+  confirmed-after (early p a e e′) = absurd (false≢true (ap isSure e))
 
   -- or of one that still has to arrive
   sure-other : {g : List ℕ} {k q z : ℕ} (a : FairAnswer) → isPage a ≡ false → At g k q z → Course g k Ready (movesOn (isPage a) q) (sure a) z
@@ -191,8 +210,8 @@ module _ (list : List ℕ) where
 
   pub confirmed-before : {g : List ℕ} {k : ℕ} {t : Standing} {q : ℕ} {z : ℕ} (a : FairAnswer) → ((p : ℕ) → a ≡ pageAck p → p ≡ q) →
       Course g k t q (underWay a) z → Course g k Ready (movesOn (isPage a) q) (sure a) z
-  confirmed-before a at (undecided x b c e e′) = let o : _≡_ {A = ℕ} 0 1 = cc in absurd (omega arith)
-  confirmed-before a at (early p x e e′) = let o : _≡_ {A = ℕ} 0 1 = cc in absurd (omega arith)
+  confirmed-before a at (undecided x b c e e′) = absurd (false≢true (ap isArrived e′))
+  confirmed-before a at (early p x e e′) = absurd (false≢true (ap isSure e))
   confirmed-before {g = g} {k = k} {q = q} {z = z} (pageAck p) at (even x y) =
       early p (subst (λ (n : ℕ). At g k n z) (sym (at p refl)) x) refl (ap (movesOn true) (sym (at p refl)))
   confirmed-before identityAck at (even x y) = sure-other identityAck refl x
@@ -250,10 +269,10 @@ module _ (list : List ℕ) where
   pub page-arrived : {g : List ℕ} {k q : ℕ} (z : ℕ) (t : Standing) → (t ≡ Sending true) ⊎ (t ≡ Ready) → g ≡ take (q * 12 + 12) list → q * 12 + 12 ≤ length list →
       k ≡ q + 1 + z → Course g k t q (arrivedAs t true) (lostAs t true z)
   page-arrived z Ready tie a h c = even (lost-one a h (omega arith)) tt
-  page-arrived z (Asking r) (inl e) a h c = let o : _≡_ {A = ℕ} 0 1 = cc in absurd (omega arith)
-  page-arrived z (Asking r) (inr e) a h c = let o : _≡_ {A = ℕ} 0 1 = cc in absurd (omega arith)
+  page-arrived z (Asking r) (inl e) a h c = absurd (false≢true (ap sendsPage e))
+  page-arrived z (Asking r) (inr e) a h c = absurd (false≢true (ap isReady e))
   page-arrived z (Sending b) (inl e) a h c = undecided a h c e refl
-  page-arrived z (Sending b) (inr e) a h c = let o : _≡_ {A = ℕ} 0 1 = cc in absurd (omega arith)
+  page-arrived z (Sending b) (inr e) a h c = absurd (false≢true (ap isReady e))
 
   -- or has come before
   pub page-sure : {g : List ℕ} {k z : ℕ} (p : ℕ) (t : Standing) (q : ℕ) → q ≡ movesOn true p → g ≡ take (p * 12 + 12) list → p * 12 + 12 ≤ length list →
@@ -265,14 +284,14 @@ module _ (list : List ℕ) where
   -- an answer that is no page arrives
   pub other-arrived : {g : List ℕ} {k q z : ℕ} (t : Standing) (a : FairAnswer) → (t ≡ Sending false) ⊎ (t ≡ Ready) → Course g k t q (underWay a) z →
       Course g k t q (arrivedAs t false) z
-  other-arrived Ready a tie c = passes c Ready nothing tt tt (λ e. let o : _≡_ {A = ℕ} 0 1 = cc in omega arith)
-  other-arrived (Asking r) a tie c = passes c (Asking r) nothing tt tt (λ e. let o : _≡_ {A = ℕ} 0 1 = cc in omega arith)
-  other-arrived (Sending true) a (inl e) c = let o : _≡_ {A = ℕ} 0 1 = cc in absurd (omega arith)
-  other-arrived (Sending true) a (inr e) c = let o : _≡_ {A = ℕ} 0 1 = cc in absurd (omega arith)
-  other-arrived (Sending false) a tie c = passes c (Sending false) (arrived false) tt tt (λ e. let o : _≡_ {A = ℕ} 0 1 = cc in omega arith)
+  other-arrived Ready a tie c = passes c Ready nothing tt tt (λ e. false≢true (ap isArrived e))
+  other-arrived (Asking r) a tie c = passes c (Asking r) nothing tt tt (λ e. false≢true (ap isArrived e))
+  other-arrived (Sending true) a (inl e) c = absurd (false≢true (sym (ap sendsPage e)))
+  other-arrived (Sending true) a (inr e) c = absurd (false≢true (ap isReady e))
+  other-arrived (Sending false) a tie c = passes c (Sending false) (arrived false) tt tt (λ e. false≢true (ap isArrived e))
 
   pub other-sure : {g : List ℕ} {k q z : ℕ} {t : Standing} (a : FairAnswer) → isPage a ≡ false → Course g k t q (sure a) z → Course g k t q nothing z
-  other-sure {t = t} a e c = passes c t nothing tt e (λ x. let o : _≡_ {A = ℕ} 0 1 = cc in omega arith)
+  other-sure {t = t} a e c = passes c t nothing tt e (λ x. false≢true (ap isArrived x))
 
 pub quiet-settled : (t : Standing) (v : Carried) → Quiet t v → Settled v
 quiet-settled t nothing y = tt

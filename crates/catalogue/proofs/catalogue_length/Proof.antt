@@ -14,17 +14,17 @@ entries-length-requires c κs = search needs
 
 add-result : tie.Need-add-result
 add-result c =
-    let args = c .before .before .before .before .before .args in
+    let args = c .before .before .before .before .args in
     omega (arith, from-most (args .modes .now) (args .run .now) 0 (args .svids .now), c .entries-length .ensures)
 
 add-result-2 : tie.Need-add-result-2
 add-result-2 c =
-    let args = c .before .before .before .before .before .args in
+    let args = c .before .before .before .before .args in
     omega (arith, from-most (args .modes .now) (args .run .now) 0 (args .svids .now), c .entries-length .ensures)
 
 returns : tie.Need-returns
 returns c =
-    let args = c .before .before .before .before .before .args in
+    let args = c .before .before .before .before .args in
     let size = length-catalogue (catalogueOf (args .objects .now) (args .svids .now) (args .modes .now) (args .run .now)) in
     omega (arith, size, from-most (args .modes .now) (args .run .now) 0 (args .svids .now), c .entries-length .ensures)
 

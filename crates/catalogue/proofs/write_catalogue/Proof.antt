@@ -41,54 +41,54 @@ held-list-requires c κs = search needs
 
 catalogue-length-requires : tie.Need-catalogue-length-requires
 catalogue-length-requires c κs =
-    let args = c .before .before .before .before .before .before .before .before .before .before .before .before .args in
-    let objects = c .before .before .before .first-objects in
-    let list = c .before .held-list in
-    let size = c .before .before .before .before .before .before .before .held .given .0 .0 in
-    let few = part-most (size .objects) (args .held-identity .now) (objects .result .now) mostObjects (c .before .before .before .before .before .first-objects-arg .given .0) (objects .ensures) in
-    let most = part-most (size .count) (args .held-svids .now) (list .result .now) mostSvids (c .before .before .held-list-arg .given .0) (list .ensures) in
-    (few, most, c .before .before .before .before .before .before .before .before .before .if1 .left)
+    let args = c .before .before .before .before .before .before .before .before .before .before .before .args in
+    let objects = c .before .before .first-objects in
+    let list = c .held-list in
+    let size = c .before .before .before .before .before .before .held .given .0 .0 in
+    let few = part-most (size .objects) (args .held-identity .now) (objects .result .now) mostObjects (c .before .before .before .before .first-objects-arg .given .0) (objects .ensures) in
+    let most = part-most (size .count) (args .held-svids .now) (list .result .now) mostSvids (c .before .held-list-arg .given .0) (list .ensures) in
+    (few, most, c .before .before .before .before .before .before .before .before .if1 .left)
 
 refused-requires-3 : tie.Need-refused-requires-3
 refused-requires-3 c κs = search needs
 
 returns-3 : tie.Need-returns-3
 returns-3 c =
-    let args = c .before .before .before .before .before .before .before .before .before .before .before .before .before .before .before .args in
-    let objects = c .before .before .before .before .before .before .first-objects in
-    let list = c .before .before .before .before .held-list in
+    let args = c .before .before .before .before .before .before .before .before .before .before .before .before .before .before .args in
+    let objects = c .before .before .before .before .before .first-objects in
+    let list = c .before .before .before .held-list in
     let holds =
     held-holding (args .laptop .held) (args .held-identity .now) (args .held-svids .now) (args .held-modes .now) (args .held-run .now)
-    _ (c .before .before .before .before .before .before .before .before .before .before .held .given .1) (objects .result .now) (list .result .now) (objects .ensures) (list .ensures) in
+    _ (c .before .before .before .before .before .before .before .before .before .held .given .1) (objects .result .now) (list .result .now) (objects .ensures) (list .ensures) in
     let held = catalogueOf (objects .result .now) (list .result .now) (args .held-modes .now) (args .held-run .now) in
-    write-short _ _ (args .out .now) held (c .before .before .before .before .before .before .before .before .before .before .before .before .if1 .left) holds _ (omega (arith, c .before .if2 .taken, c .before .before .catalogue-length .ensures)) (c .refused3 .ensures)
+    write-short _ _ (args .out .now) held (c .before .before .before .before .before .before .before .before .before .before .before .if1 .left) holds _ (omega (arith, c .before .if2 .taken, c .before .before .catalogue-length .ensures)) (c .refused3 .ensures)
 
 put-catalogue-requires : tie.Need-put-catalogue-requires
 put-catalogue-requires c κs =
-    let args = c .before .before .before .before .before .before .before .before .before .before .before .before .before .before .before .before .args in
-    let objects = c .before .before .before .before .before .before .before .first-objects in
-    let list = c .before .before .before .before .before .held-list in
-    let size = c .before .before .before .before .before .before .before .before .before .before .before .held .given .0 .0 in
-    let few = part-most (size .objects) (args .held-identity .now) (objects .result .now) mostObjects (c .before .before .before .before .before .before .before .before .before .first-objects-arg .given .0) (objects .ensures) in
-    let most = part-most (size .count) (args .held-svids .now) (list .result .now) mostSvids (c .before .before .before .before .before .before .held-list-arg .given .0) (list .ensures) in
-    (few, most, c .before .before .before .before .before .before .before .before .before .before .before .before .before .if1 .left, omega (arith, c .before .before .if2 .left, c .before .before .before .catalogue-length .ensures))
+    let args = c .before .before .before .before .before .before .before .before .before .before .before .before .before .before .args in
+    let objects = c .before .before .before .before .before .first-objects in
+    let list = c .before .before .before .held-list in
+    let size = c .before .before .before .before .before .before .before .before .before .held .given .0 .0 in
+    let few = part-most (size .objects) (args .held-identity .now) (objects .result .now) mostObjects (c .before .before .before .before .before .before .before .first-objects-arg .given .0) (objects .ensures) in
+    let most = part-most (size .count) (args .held-svids .now) (list .result .now) mostSvids (c .before .before .before .before .held-list-arg .given .0) (list .ensures) in
+    (few, most, c .before .before .before .before .before .before .before .before .before .before .before .if1 .left, omega (arith, c .before .if2 .left, c .before .before .catalogue-length .ensures))
 
-cast-t25 : tie.Need-cast-t25
-cast-t25 c = search needs
+cast-t21 : tie.Need-cast-t21
+cast-t21 c = search needs
 
 same-length : tie.Need-same-length
 same-length c = search needs
 
 returns-4 : tie.Need-returns-4
 returns-4 c =
-    let args = c .before .before .before .before .before .before .before .before .before .before .before .before .before .before .before .before .before .before .before .args in
-    let objects = c .before .before .before .before .before .before .before .before .before .before .first-objects in
-    let list = c .before .before .before .before .before .before .before .before .held-list in
+    let args = c .before .before .before .before .before .before .before .before .before .before .before .before .before .before .before .before .before .args in
+    let objects = c .before .before .before .before .before .before .before .before .first-objects in
+    let list = c .before .before .before .before .before .before .held-list in
     let holds =
     held-holding (args .laptop .held) (args .held-identity .now) (args .held-svids .now) (args .held-modes .now) (args .held-run .now)
-    _ (c .before .before .before .before .before .before .before .before .before .before .before .before .before .before .held .given .1) (objects .result .now) (list .result .now) (objects .ensures) (list .ensures) in
+    _ (c .before .before .before .before .before .before .before .before .before .before .before .before .held .given .1) (objects .result .now) (list .result .now) (objects .ensures) (list .ensures) in
     let held = catalogueOf (objects .result .now) (list .result .now) (args .held-modes .now) (args .held-run .now) in
-    write-whole _ _ (args .out .now) held (c .before .before .before .before .before .before .before .before .before .before .before .before .before .before .before .before .if1 .left) holds _ (c .before .before .before .before .before .before .catalogue-length .ensures .0) (c .before .before .before .before .before .if2 .left) _ (c .before .before .put-catalogue .ensures)
+    write-whole _ _ (args .out .now) held (c .before .before .before .before .before .before .before .before .before .before .before .before .before .before .if1 .left) holds _ (c .before .before .before .before .before .catalogue-length .ensures .0) (c .before .before .before .before .if2 .left) _ (c .before .before .put-catalogue .ensures)
 
 pub write-catalogue-spec : {M : Type 1} → statement M
 write-catalogue-spec =
@@ -107,6 +107,6 @@ write-catalogue-spec =
     refused-requires-3
     returns-3
     put-catalogue-requires
-    cast-t25
+    cast-t21
     same-length
     returns-4)

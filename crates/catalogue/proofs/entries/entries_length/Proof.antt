@@ -24,7 +24,7 @@ loop-holds c = omega arith
 
 add-length : tie.Need-add-length Inv-loop μ-loop
 add-length c =
-    let args = c .before .before .before .before .before .args in
+    let args = c .before .before .before .before .args in
     omega (arith, from-most (args .modes .now) (args .run .now) 0 (args .svids .now))
 
 modes-at-requires : tie.Need-modes-at-requires Inv-loop μ-loop
@@ -32,12 +32,12 @@ modes-at-requires c κs = omega arith
 
 mul-length : tie.Need-mul-length Inv-loop μ-loop
 mul-length c =
-    let args = c .before .before .before .before .before .before .args in
+    let args = c .before .before .before .before .before .args in
     omega (arith, modes-most (args .modes .now) (c .before .before .loop .i) (args .run .now), ap length-of (c .modes-at .ensures))
 
 add-length-2 : tie.Need-add-length-2 Inv-loop μ-loop
 add-length-2 c =
-    let args = c .before .before .before .before .before .before .args in
+    let args = c .before .before .before .before .before .args in
     let most = modes-most (args .modes .now) (c .before .before .loop .i) (args .run .now) in
     omega (arith, from-most (args .modes .now) (args .run .now) 0 (args .svids .now), most, ap length-of (c .modes-at .ensures))
 
@@ -49,12 +49,12 @@ loop-less c = omega arith
 
 loop-again : tie.Need-loop-again Inv-loop μ-loop
 loop-again c =
-    let args = c .before .before .before .before .before .before .args in
+    let args = c .before .before .before .before .before .args in
     omega (arith, entries-more (args .svids .now) (args .modes .now) (args .run .now) (c .before .before .loop .i) (c .before .loop-test .taken) _ (c .modes-at .ensures))
 
 returns : tie.Need-returns Inv-loop μ-loop
 returns c =
-    let args = c .before .before .before .before .before .args in
+    let args = c .before .before .before .before .args in
     omega (arith, ap length-of (entries-end (args .svids .now) (args .modes .now) (args .run .now) (c .before .loop .i) (c .loop-test .left)))
 
 pub entries-length-spec : {M : Type 1} → statement M

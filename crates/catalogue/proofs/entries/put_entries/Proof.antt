@@ -1,6 +1,6 @@
 -- `put_entries` meets its promise. The loop's invariant: the entries from i on are left to store.
-use mathlib.Core.Path.{_≡_, refl, ap}
-use Prim.Native.Nat.{_+_, _*_, _-_, _≤_}
+use mathlib.Core.Path.{refl}
+use Prim.Native.Nat.{_+_, _-_, _≤_}
 use native.Mathlib.Omega.{arith}
 use lib.ListN.{length, getD, drop}
 use Rattle.laptop.specs.Catalogue.{Entry, entriesFrom}
@@ -20,12 +20,9 @@ abbrev μ-loop : tie.MeasureT-loop
 
 loop-holds : tie.Need-loop-holds Inv-loop μ-loop
 loop-holds c =
-    let args = c .before .before .before .before .args in
+    let args = c .before .before .before .args in
     let all = entriesBytes (entriesFrom 0 (args .svids .now) (args .modes .now) (args .run .now)) in
-    (omega arith, storing-start (args .out .now) (args .start) (args .start) all refl)
-
-modes-at-requires : tie.Need-modes-at-requires Inv-loop μ-loop
-modes-at-requires c κs = omega arith
+    (omega arith, storing-start (args .out .now) (args .start) all _ refl)
 
 mul-put-entry : tie.Need-mul-put-entry Inv-loop μ-loop
 mul-put-entry c = omega arith
@@ -33,33 +30,18 @@ mul-put-entry c = omega arith
 shared-slice-read-put-entry : tie.Need-shared-slice-read-put-entry Inv-loop μ-loop
 shared-slice-read-put-entry c = omega arith
 
+modes-at-requires : tie.Need-modes-at-requires Inv-loop μ-loop
+modes-at-requires c κs = omega arith
+
 put-entry-requires : tie.Need-put-entry-requires Inv-loop μ-loop
 put-entry-requires c κs =
-    let args = c .before .before .before .before .before .before .before .before .before .args in
+    let args = c .before .before .before .before .before .before .before .before .args in
+    let svids = args .svids .now in
     let loop = c .before .before .before .before .loop in
-    let more = entries-more (args .svids .now) (args .modes .now) (args .run .now) (loop .i) (c .before .before .before .loop-test .taken) _ (c .before .before .modes-at .ensures) in
-    omega (arith, loop .inv, c .before .before .before .before .before .before .before .before .before .pre, more)
-
-add-at : tie.Need-add-at Inv-loop μ-loop
-add-at c =
-    let args = c .before .before .before .before .before .before .before .before .before .before .before .before .args in
-    let loop = c .before .before .before .before .before .before .before .loop in
-    let more = entries-more (args .svids .now) (args .modes .now) (args .run .now) (loop .i) (c .before .before .before .before .before .before .loop-test .taken) _ (c .before .before .before .before .before .modes-at .ensures) in
-    omega (arith, loop .inv, c .before .before .before .before .before .before .before .before .before .before .before .before .pre, more)
-
-mul-at : tie.Need-mul-at Inv-loop μ-loop
-mul-at c =
-    let args = c .before .before .before .before .before .before .before .before .before .before .before .before .args in
-    let loop = c .before .before .before .before .before .before .before .loop in
-    let more = entries-more (args .svids .now) (args .modes .now) (args .run .now) (loop .i) (c .before .before .before .before .before .before .loop-test .taken) _ (c .before .before .before .before .before .modes-at .ensures) in
-    omega (arith, loop .inv, c .before .before .before .before .before .before .before .before .before .before .before .before .pre, more)
-
-add-at-2 : tie.Need-add-at-2 Inv-loop μ-loop
-add-at-2 c =
-    let args = c .before .before .before .before .before .before .before .before .before .before .before .before .args in
-    let loop = c .before .before .before .before .before .before .before .loop in
-    let more = entries-more (args .svids .now) (args .modes .now) (args .run .now) (loop .i) (c .before .before .before .before .before .before .loop-test .taken) _ (c .before .before .before .before .before .modes-at .ensures) in
-    omega (arith, loop .inv, c .before .before .before .before .before .before .before .before .before .before .before .before .pre, more)
+    let words = c .modes-at .result .now in
+    let entry : Entry = record { svid = getD svids (loop .i) 0; modes = words } in
+    let more = entries-more svids (args .modes .now) (args .run .now) (loop .i) (c .before .before .before .loop-test .taken) words (c .modes-at .ensures) in
+    omega (arith, loop .inv, c .before .before .before .before .before .before .before .before .pre, more, length-entry entry)
 
 add-i : tie.Need-add-i Inv-loop μ-loop
 add-i c = omega arith
@@ -69,28 +51,25 @@ loop-less c = omega arith
 
 loop-again : tie.Need-loop-again Inv-loop μ-loop
 loop-again c =
-    let args = c .before .before .before .before .before .before .before .before .before .before .before .before .args in
+    let args = c .before .before .before .before .before .before .before .before .before .before .before .args in
     let svids = args .svids .now in
     let modes = args .modes .now in
     let run = args .run .now in
     let loop = c .before .before .before .before .before .before .before .loop in
     let i = loop .i in
-    let words = c .before .before .before .before .before .modes-at .result .now in
-    let entry : Entry = record { svid = getD svids i 0; modes = words } in
+    let words = c .before .before .before .modes-at .result .now in
     let rest = entriesBytes (entriesFrom (i + 1) (drop (i + 1) svids) modes run) in
-    let left = entries-next svids modes run i (c .before .before .before .before .before .before .loop-test .taken) words (c .before .before .before .before .before .modes-at .ensures) in
-    let next : loop .at + length (entryBytes entry) ≡ loop .at + 3 + length words * 5 = omega (arith, length-entry entry) in
-    (omega arith, storing-next (loop .inv .1) (entryBytes entry) rest left _ next _ (c .before .before .put-entry .ensures))
+    let left = entries-next svids modes run i (c .before .before .before .before .before .before .loop-test .taken) words (c .before .before .before .modes-at .ensures) in
+    (omega arith, storing-next (loop .inv .1) (entryBytes (record { svid = getD svids i 0; modes = words })) rest left (c .before .before .put-entry .ensures))
 
 same-length : tie.Need-same-length Inv-loop μ-loop
 same-length c = c .before .loop .inv .1 .kept
 
 returns : tie.Need-returns Inv-loop μ-loop
 returns c =
-    let args = c .before .before .before .before .before .before .args in
+    let args = c .before .before .before .before .before .args in
     let loop = c .before .loop in
-    let none = entries-end (args .svids .now) (args .modes .now) (args .run .now) (loop .i) (c .loop-test .left) in
-    (omega (arith, loop .inv, ap length none), storing-end (loop .inv .1) none)
+    storing-end (loop .inv .1) (entries-end (args .svids .now) (args .modes .now) (args .run .now) (loop .i) (c .loop-test .left))
 
 pub put-entries-spec : {M : Type 1} → statement M
 put-entries-spec =
@@ -99,13 +78,10 @@ put-entries-spec =
     Inv-loop
     μ-loop
     loop-holds
-    modes-at-requires
     mul-put-entry
     shared-slice-read-put-entry
+    modes-at-requires
     put-entry-requires
-    add-at
-    mul-at
-    add-at-2
     add-i
     loop-less
     loop-again

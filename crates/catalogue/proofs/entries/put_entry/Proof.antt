@@ -1,17 +1,29 @@
 -- `put_entry` meets its promise: the SVID, then its modes.
-use Rattle.catalogue.proofs.Records.{store-entry}
+use native.Mathlib.Omega.{arith}
+use Rattle.laptop.specs.Catalogue.{Entry}
+use Rattle.catalogue.proofs.Records.{entry-record, entry-room, put-behind, put-same, put-kept, number-ends}
 use borrow.Author.Needs.{needs}
 use Rattle.catalogue.proofs.entries.put_entry.Statement.{statement}
 use Rattle.catalogue.proofs.entries.put_entry.Tie as tie
 
-put-svid-requires : tie.Need-put-svid-requires
-put-svid-requires c κs = search needs
+mul-put-number : tie.Need-mul-put-number
+mul-put-number c = search needs
 
-add-put-modes : tie.Need-add-put-modes
-add-put-modes c = search needs
+add-put-number : tie.Need-add-put-number
+add-put-number c = search needs
 
-put-modes-requires : tie.Need-put-modes-requires
-put-modes-requires c κs = search needs
+put-number-requires : tie.Need-put-number-requires
+put-number-requires c κs =
+    let args = c .before .before .before .args in
+    let entry : Entry = record { svid = args .svid; modes = args .words .now } in
+    omega (arith, entry-room entry)
+
+put-words-requires : tie.Need-put-words-requires
+put-words-requires c κs =
+    let args = c .before .before .before .before .before .before .before .args in
+    let entry : Entry = record { svid = args .svid; modes = args .words .now } in
+    let first = c .before .before .before .put-number .ensures in
+    omega (arith, entry-room entry, number-ends 3 _ first, put-kept first, c .before .before .before .before .before .before .before .pre)
 
 same-length : tie.Need-same-length
 same-length c = search needs
@@ -19,8 +31,16 @@ same-length c = search needs
 returns : tie.Need-returns
 returns c =
     let args = c .before .before .before .before .before .before .before .before .before .before .args in
-    store-entry (args .out .now) _ _ (args .at) (record { svid = args .svid; modes = args .modes .now }) (c .before .before .before .before .before .before .put-svid .ensures) (c .before .before .put-modes .ensures)
+    let entry : Entry = record { svid = args .svid; modes = args .words .now } in
+    put-same (put-behind (c .before .before .before .before .before .before .put-number .ensures) (c .before .before .put-words .ensures)) _ (entry-record entry)
 
 pub put-entry-spec : {M : Type 1} → statement M
 put-entry-spec =
-    tie.close (tie.spec put-svid-requires add-put-modes put-modes-requires same-length returns)
+    tie.close
+    (tie.spec
+    mul-put-number
+    add-put-number
+    put-number-requires
+    put-words-requires
+    same-length
+    returns)

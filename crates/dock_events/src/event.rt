@@ -3,12 +3,15 @@ use dock::Dock;
 use dock::Policy;
 use dock::Step;
 use messages::Request;
+use text::input::Byte;
 use text::input::GREATEST;
 use text::input::fill;
 use text::input::fill_halves;
 use text::input::fill_words;
 use text::input::half_of;
 use text::input::length_of;
+use text::input::read_byte;
+use text::stream::Turn;
 
 // The kinds of event. From 1 to MOST_OBJECTS, a kind is a message of that many objects.
 const MOST_OBJECTS: u8 = 7;
@@ -35,23 +38,15 @@ const FIXED: usize = 5;
 
 const COUNT: usize = 4;
 
-// What became of the event that was to come next.
-pub enum Outcome {
-    Answered,
-    Ended,
-    Unknown,
-    Cut,
-}
-
 // The step leaves the dock alone where the event was not answered.
 pub struct Taken {
-    pub outcome: Outcome,
+    pub turn: Turn,
     pub step: Step,
 }
 
 fn answered(step: Step) -> Taken {
     Taken {
-        outcome: Outcome::Answered,
+        turn: Turn::Answered,
         step,
     }
 }
@@ -65,9 +60,16 @@ pub fn unchanged(dock: Dock) -> Step {
     }
 }
 
-fn not_answered(outcome: Outcome, dock: Dock) -> Taken {
+fn unknown(dock: Dock) -> Taken {
     Taken {
-        outcome,
+        turn: Turn::Unknown,
+        step: unchanged(dock),
+    }
+}
+
+fn cut(dock: Dock) -> Taken {
+    Taken {
+        turn: Turn::Cut,
         step: unchanged(dock),
     }
 }
@@ -76,35 +78,41 @@ fn take_bytes(length: u8, dock: Dock, output: &mut [u8]) -> Taken {
     let mut buffer = [0u8; GREATEST];
     let message = &mut buffer[0..length_of(length)];
     if !fill(message) {
-        return not_answered(Outcome::Cut, dock);
+        return cut(dock);
     }
     answered(dock::message(dock, message, output))
 }
 
 fn take_message(dock: Dock, output: &mut [u8]) -> Taken {
-    let mut length = [0u8; 1];
-    if !fill(&mut length) {
-        return not_answered(Outcome::Cut, dock);
+    let Byte::Read(length) = read_byte() else {
+        return cut(dock);
+    };
+    take_bytes(length, dock, output)
+}
+
+// The identity is read, and the SVIDs come.
+fn take_svids(count: u8, dock: Dock, identity: &[u32]) -> Taken {
+    let mut halves = [0u16; GREATEST];
+    let svids = &mut halves[0..length_of(count)];
+    if !fill_halves(svids) {
+        return cut(dock);
     }
-    take_bytes(length[0], dock, output)
+    answered(loading::load(dock, identity, svids))
 }
 
 fn take_load(dock: Dock) -> Taken {
-    let mut counts = [0u8; 2];
-    if !fill(&mut counts) {
-        return not_answered(Outcome::Cut, dock);
-    }
+    let Byte::Read(objects) = read_byte() else {
+        return cut(dock);
+    };
+    let Byte::Read(count) = read_byte() else {
+        return cut(dock);
+    };
     let mut words = [0u32; GREATEST];
-    let identity = &mut words[0..length_of(counts[0])];
+    let identity = &mut words[0..length_of(objects)];
     if !fill_words(identity) {
-        return not_answered(Outcome::Cut, dock);
+        return cut(dock);
     }
-    let mut halves = [0u16; GREATEST];
-    let svids = &mut halves[0..length_of(counts[1])];
-    if !fill_halves(svids) {
-        return not_answered(Outcome::Cut, dock);
-    }
-    answered(loading::load(dock, identity, svids))
+    take_svids(count, dock, identity)
 }
 
 fn request_of(fixed: &[u8; FIXED]) -> Request {
@@ -115,18 +123,36 @@ fn request_of(fixed: &[u8; FIXED]) -> Request {
     }
 }
 
+fn policy_of(kind: u8) -> Policy {
+    match kind {
+        GIVE => Policy::Give,
+        NAK => Policy::Nak,
+        _ => Policy::Busy,
+    }
+}
+
+// The part before the objects is read, and they come.
+fn take_objects(
+    policy: Policy,
+    request: Request,
+    count: u8,
+    dock: Dock,
+    output: &mut [u8],
+) -> Taken {
+    let mut words = [0u32; GREATEST];
+    let objects = &mut words[0..length_of(count)];
+    if !fill_words(objects) {
+        return cut(dock);
+    }
+    answered(answering::answer(dock, policy, request, objects, output))
+}
+
 fn take_answer(policy: Policy, dock: Dock, output: &mut [u8]) -> Taken {
     let mut fixed = [0u8; FIXED];
     if !fill(&mut fixed) {
-        return not_answered(Outcome::Cut, dock);
+        return cut(dock);
     }
-    let mut words = [0u32; GREATEST];
-    let objects = &mut words[0..length_of(fixed[COUNT])];
-    if !fill_words(objects) {
-        return not_answered(Outcome::Cut, dock);
-    }
-    let request = request_of(&fixed);
-    answered(answering::answer(dock, policy, request, objects, output))
+    take_objects(policy, request_of(&fixed), fixed[COUNT], dock, output)
 }
 
 pub fn take(kind: u8, dock: Dock, output: &mut [u8]) -> Taken {
@@ -134,11 +160,9 @@ pub fn take(kind: u8, dock: Dock, output: &mut [u8]) -> Taken {
         1..=MOST_OBJECTS => take_bytes(OBJECT * kind, dock, output),
         MESSAGE => take_message(dock, output),
         LOAD => take_load(dock),
-        GIVE => take_answer(Policy::Give, dock, output),
-        NAK => take_answer(Policy::Nak, dock, output),
-        BUSY => take_answer(Policy::Busy, dock, output),
+        GIVE..=BUSY => take_answer(policy_of(kind), dock, output),
         SENT => answered(dock::sent(dock)),
         FAILED => answered(dock::failed(dock)),
-        _ => not_answered(Outcome::Unknown, dock),
+        _ => unknown(dock),
     }
 }

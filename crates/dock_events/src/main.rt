@@ -3,14 +3,17 @@ mod event;
 mod report;
 
 use dock::Dock;
-use event::Outcome;
 use event::unchanged;
 use libc::STDOUT_FILENO;
 use report::print_event;
+use text::input::Byte;
 use text::input::GREATEST;
-use text::input::fill;
 use text::input::length_of;
-use text::line::print_last;
+use text::input::read_byte;
+use text::stream::Finish;
+use text::stream::MOST;
+use text::stream::Turn;
+use text::stream::print_finish;
 
 // The kind of the event that gives the output buffer another number of bytes. Module `event` has
 // the others.
@@ -22,74 +25,60 @@ const FIRST_ROOM: u8 = 28;
 // What the output holds before each event, so that a reader sees which bytes were left alone.
 const UNWRITTEN: u8 = 0x5A;
 
-// A proved loop has to end, and nothing says that the input does. So after this many events the
-// input counts as ended.
-const BUDGET: u64 = 1000000;
-
 // What stays from event to event.
 struct State {
     dock: Dock,
     room: u8,
 }
 
-// The state stands beside the outcome and not in it: Rattle does not prove an enum that holds an
-// array by itself.
-struct Turn {
-    outcome: Outcome,
+// The state stands beside the turn and not in it: Rattle does not prove an enum that holds an array
+// by itself.
+struct Answer {
+    turn: Turn,
     state: State,
 }
 
-// The outcome that was the last, and how many events were answered before it.
-struct Finish {
-    outcome: Outcome,
-    answered: u64,
-}
-
-fn answer_room(number: u64, state: State) -> Turn {
-    let mut room = [0u8; 1];
-    if !fill(&mut room) {
-        return Turn {
-            outcome: Outcome::Cut,
+fn answer_room(number: u64, state: State) -> Answer {
+    let Byte::Read(room) = read_byte() else {
+        return Answer {
+            turn: Turn::Cut,
             state,
         };
-    }
-    let room = room[0];
+    };
     let dock = state.dock;
     let output = [UNWRITTEN; GREATEST];
     print_event(number, unchanged(dock), &output[0..length_of(room)]);
-    Turn {
-        outcome: Outcome::Answered,
+    Answer {
+        turn: Turn::Answered,
         state: State { dock, room },
     }
 }
 
-fn answer_event(number: u64, kind: u8, state: State) -> Turn {
+fn answer_event(number: u64, kind: u8, state: State) -> Answer {
     let room = state.room;
     let dock = state.dock;
     let mut buffer = [UNWRITTEN; GREATEST];
     let output = &mut buffer[0..length_of(room)];
     let taken = event::take(kind, dock, output);
-    let outcome = taken.outcome;
+    let turn = taken.turn;
     let step = taken.step;
-    if let Outcome::Answered = outcome {
+    if let Turn::Answered = turn {
         print_event(number, step, output);
     }
     let dock = step.dock;
-    Turn {
-        outcome,
+    Answer {
+        turn,
         state: State { dock, room },
     }
 }
 
-fn answer_next(number: u64, state: State) -> Turn {
-    let mut kind = [0u8; 1];
-    if !fill(&mut kind) {
-        return Turn {
-            outcome: Outcome::Ended,
+fn answer_next(number: u64, state: State) -> Answer {
+    let Byte::Read(kind) = read_byte() else {
+        return Answer {
+            turn: Turn::Ended,
             state,
         };
-    }
-    let kind = kind[0];
+    };
     if kind == ROOM {
         return answer_room(number, state);
     }
@@ -103,27 +92,18 @@ fn answer_all() -> Finish {
         room: FIRST_ROOM,
     };
     let mut answered: u64 = 0;
-    while answered < BUDGET {
-        let turn = answer_next(answered + 1, state);
-        let outcome = turn.outcome;
-        let Outcome::Answered = outcome else {
-            return Finish { outcome, answered };
+    while answered < MOST {
+        let answer = answer_next(answered + 1, state);
+        let turn = answer.turn;
+        let Turn::Answered = turn else {
+            return Finish { turn, answered };
         };
-        state = turn.state;
+        state = answer.state;
         answered += 1;
     }
     Finish {
-        outcome: Outcome::Ended,
+        turn: Turn::Ended,
         answered,
-    }
-}
-
-fn print_finish(finish: Finish) {
-    let outcome = finish.outcome;
-    match outcome {
-        Outcome::Unknown => print_last(b"unknown kind after ", finish.answered, b" events\n"),
-        Outcome::Cut => print_last(b"cut after ", finish.answered, b" events\n"),
-        _ => print_last(b"end ", finish.answered, b" events\n"),
     }
 }
 
@@ -132,5 +112,5 @@ fn main() {
         STDOUT_FILENO,
         b"event refusal length buffer standing page count\n",
     );
-    print_finish(answer_all());
+    print_finish(answer_all(), b" events\n");
 }

@@ -1,6 +1,7 @@
 // Standard input and output in blocks: buffers that the caller lends, so that one call of the C library moves many events or lines.
 ghost use Prim.Native.Nat.{_≤_};
 ghost use lib.ListN.{length};
+use crate::input::first_bytes;
 use crate::line::print_line;
 use libc::STDIN_FILENO;
 
@@ -21,14 +22,12 @@ pub fn nothing_read() -> Unread {
 
 // The part lies within every block: testing it spares the callers the proof.
 pub fn unread_bytes(block: &[u8], unread: Unread) -> &[u8] {
+    let bytes = first_bytes(block, unread.end);
     let start = unread.start;
-    let end = unread.end;
-    if start <= end {
-        if end <= block.len() {
-            return &block[start..end];
-        }
+    if start <= bytes.len() {
+        return &bytes[start..];
     }
-    &block[0..0]
+    bytes
 }
 
 // The part without its first bytes.

@@ -29,6 +29,29 @@ pub fn word_of(bytes: &[u8; 4]) -> u32 {
     (low as u32) + (high as u32) * 65536
 }
 
+// A byte that was read, or the input ended before it.
+pub enum Byte {
+    Read(u8),
+    Cut,
+}
+
+pub fn read_byte() -> Byte {
+    let mut byte = [0u8; 1];
+    if fill(&mut byte) {
+        return Byte::Read(byte[0]);
+    }
+    Byte::Cut
+}
+
+// The first bytes, or all where there are fewer: testing it spares the callers the proof. A part is written `0..count` in this crate, and not
+// `..count`, since Rattle then proves its length with no proof file.
+pub fn first_bytes(bytes: &[u8], count: usize) -> &[u8] {
+    if count <= bytes.len() {
+        return &bytes[0..count];
+    }
+    bytes
+}
+
 // As `fill`, with two bytes for each half. Each is read by itself, since no buffer of bytes has room
 // for any number of them.
 pub fn fill_halves(halves: &mut [u16]) -> bool {

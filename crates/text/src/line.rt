@@ -1,13 +1,17 @@
 // One line of output, built in a buffer that the caller lends, so that one call writes it. Each
 // function that adds to the line puts its text at `at` and answers where that text ends.
+use crate::input::first_bytes;
 use libc::STDOUT_FILENO;
 
-// A part is written `0..end` in this crate, and not `..end`, since Rattle then proves its length
-// with no proof file. `end` lies within every line: testing it spares the callers the proof.
+// `end` lies within every line.
 pub fn print_line(line: &[u8], end: usize) {
-    if end <= line.len() {
-        io::write_all(STDOUT_FILENO, &line[0..end]);
-    }
+    io::write_all(STDOUT_FILENO, first_bytes(line, end));
+}
+
+// Ends the line and writes it.
+pub fn end_line(line: &mut [u8], at: usize) {
+    let end = put(line, at, b'\n');
+    print_line(line, end);
 }
 
 // A program's last line: how the input ended, how many were answered before that, and the rest. It
@@ -19,7 +23,7 @@ pub fn print_last(ending: &[u8], answered: u64, rest: &[u8]) {
 }
 
 // The callers lend lines with room for all of their text, and testing it spares them the proof.
-fn put(line: &mut [u8], at: usize, byte: u8) -> usize {
+pub fn put(line: &mut [u8], at: usize, byte: u8) -> usize {
     if at < line.len() {
         line[at] = byte;
         return at + 1;
@@ -37,27 +41,17 @@ pub fn append(line: &mut [u8], at: usize, text: &[u8]) -> usize {
     end
 }
 
-// A number below 2 ^ 64 has at most so many decimal digits.
-const MOST_DIGITS: usize = 20;
-
 fn digit_of(number: u64) -> u8 {
     b'0' + (number % 10) as u8
 }
 
 // The library's `io::decimal` divides by a base that it is given; a division by a constant is a multiplication.
 pub fn append_decimal(line: &mut [u8], at: usize, number: u64) -> usize {
-    let mut digits = [b'0'; MOST_DIGITS];
-    let mut first = MOST_DIGITS;
-    let mut rest = number;
-    while 0 < first {
-        first -= 1;
-        digits[first] = digit_of(rest);
-        rest = rest / 10;
-        if rest == 0 {
-            return append(line, at, &digits[first..]);
-        }
+    let mut end = at;
+    if 10 <= number {
+        end = append_decimal(line, at, number / 10);
     }
-    append(line, at, &digits)
+    put(line, end, digit_of(number))
 }
 
 // The number has a space before it.
@@ -102,14 +96,30 @@ pub fn append_bytes(line: &mut [u8], at: usize, bytes: &[u8]) -> usize {
     end
 }
 
+// The bytes have a space before them.
+pub fn append_spaced_bytes(line: &mut [u8], at: usize, bytes: &[u8]) -> usize {
+    let at = put(line, at, b' ');
+    append_bytes(line, at, bytes)
+}
+
+// The word has a space before it.
+pub fn append_spaced_word(line: &mut [u8], at: usize, word: u32) -> usize {
+    let at = put(line, at, b' ');
+    append_word(line, at, word)
+}
+
 // Each word has a space before it.
 pub fn append_words(line: &mut [u8], at: usize, words: &[u32]) -> usize {
     let mut end = at;
     let mut index = 0;
     while index < words.len() {
-        end = put(line, end, b' ');
-        end = append_word(line, end, words[index]);
+        end = append_spaced_word(line, end, words[index]);
         index += 1;
     }
     end
+}
+
+// What a line has where there is nothing to tell.
+pub fn append_nothing(line: &mut [u8], at: usize) -> usize {
+    append(line, at, b" -")
 }

@@ -1,32 +1,34 @@
 // A read vector: the length of a message, then its bytes.
 use crate::LONGEST;
+use crate::begin_line;
 use messages::Answer;
 use messages::Head;
 use messages::Reading;
+use messages::first_objects;
+use text::input::Byte;
 use text::input::GREATEST;
 use text::input::fill;
 use text::input::length_of;
+use text::input::read_byte;
 use text::line::append;
 use text::line::append_decimal;
 use text::line::append_field;
 use text::line::append_half;
 use text::line::append_words;
-use text::line::print_line;
+use text::line::end_line;
+use text::stream::Turn;
 
-fn append_head(line: &mut [u8], at: usize, head: Head) -> usize {
-    let at = append(line, at, b"0 ");
-    let at = append_half(line, at, head.svid);
+// The fields of a header behind its SVID.
+fn append_fields(line: &mut [u8], at: usize, head: Head) -> usize {
     let at = append_field(line, at, head.command);
     let at = append_field(line, at, head.kind);
     append_field(line, at, head.position)
 }
 
-// The count is tested, so that this program leans on nothing that the library promises.
-fn append_objects(line: &mut [u8], at: usize, objects: &[u32], count: usize) -> usize {
-    if count <= objects.len() {
-        return append_words(line, at, &objects[0..count]);
-    }
-    at
+fn append_head(line: &mut [u8], at: usize, head: Head) -> usize {
+    let at = append(line, at, b"0 ");
+    let at = append_half(line, at, head.svid);
+    append_fields(line, at, head)
 }
 
 fn append_reading(line: &mut [u8], at: usize, reading: Reading) -> usize {
@@ -35,7 +37,7 @@ fn append_reading(line: &mut [u8], at: usize, reading: Reading) -> usize {
     match answer {
         Answer::Message(head, count) => {
             let at = append_head(line, at, head);
-            append_objects(line, at, &objects, count as usize)
+            append_words(line, at, first_objects(&objects, count as usize))
         }
         Answer::Refused(refusal) => append_decimal(line, at, refusal as u64),
     }
@@ -43,25 +45,21 @@ fn append_reading(line: &mut [u8], at: usize, reading: Reading) -> usize {
 
 fn print_answer(number: u64, reading: Reading) {
     let mut line = [0u8; LONGEST];
-    let at = append_decimal(&mut line, 0, number);
-    let at = append(&mut line, at, b" read ");
+    let at = begin_line(&mut line, number, b" read ");
     let at = append_reading(&mut line, at, reading);
-    let at = append(&mut line, at, b"\n");
-    print_line(&line, at);
+    end_line(&mut line, at);
 }
 
-// Reads the vector and prints its line, or answers false where the input ends inside it.
-pub fn answer(number: u64) -> bool {
-    let mut length = [0u8; 1];
-    if !fill(&mut length) {
-        return false;
-    }
-    let length = length_of(length[0]);
+// Reads the vector and prints its line.
+pub fn answer(number: u64) -> Turn {
+    let Byte::Read(length) = read_byte() else {
+        return Turn::Cut;
+    };
     let mut buffer = [0u8; GREATEST];
-    let message = &mut buffer[0..length];
+    let message = &mut buffer[0..length_of(length)];
     if !fill(message) {
-        return false;
+        return Turn::Cut;
     }
     print_answer(number, reading::read(message));
-    true
+    Turn::Answered
 }

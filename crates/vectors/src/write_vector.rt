@@ -1,15 +1,16 @@
 // A write vector: a header, the room for the output, the number of objects, then the objects.
 use crate::LONGEST;
+use crate::begin_line;
 use messages::Head;
 use text::input::GREATEST;
 use text::input::fill;
 use text::input::fill_words;
 use text::input::half_of;
 use text::input::length_of;
-use text::line::append;
-use text::line::append_bytes;
 use text::line::append_decimal;
-use text::line::print_line;
+use text::line::append_spaced_bytes;
+use text::line::end_line;
+use text::stream::Turn;
 
 // The length of the part before the objects, and where its last two bytes stand.
 const FIXED: usize = 7;
@@ -34,18 +35,15 @@ fn append_output(line: &mut [u8], at: usize, output: &[u8]) -> usize {
     if output.len() == 0 {
         return at;
     }
-    let at = append(line, at, b" ");
-    append_bytes(line, at, output)
+    append_spaced_bytes(line, at, output)
 }
 
 fn print_answer(number: u64, refusal: u8, output: &[u8]) {
     let mut line = [0u8; LONGEST];
-    let at = append_decimal(&mut line, 0, number);
-    let at = append(&mut line, at, b" write ");
+    let at = begin_line(&mut line, number, b" write ");
     let at = append_decimal(&mut line, at, refusal as u64);
     let at = append_output(&mut line, at, output);
-    let at = append(&mut line, at, b"\n");
-    print_line(&line, at);
+    end_line(&mut line, at);
 }
 
 fn write_and_print(number: u64, head: Head, objects: &[u32], room: u8) {
@@ -55,17 +53,22 @@ fn write_and_print(number: u64, head: Head, objects: &[u32], room: u8) {
     print_answer(number, refusal, output);
 }
 
-// Reads the vector and prints its line, or answers false where the input ends inside it.
-pub fn answer(number: u64) -> bool {
-    let mut fixed = [0u8; FIXED];
-    if !fill(&mut fixed) {
-        return false;
-    }
+// The part before the objects is read, and they come.
+fn answer_objects(number: u64, fixed: &[u8; FIXED]) -> Turn {
     let mut words = [0u32; GREATEST];
     let objects = &mut words[0..length_of(fixed[COUNT])];
     if !fill_words(objects) {
-        return false;
+        return Turn::Cut;
     }
-    write_and_print(number, head_of(&fixed), objects, fixed[ROOM]);
-    true
+    write_and_print(number, head_of(fixed), objects, fixed[ROOM]);
+    Turn::Answered
+}
+
+// Reads the vector and prints its line.
+pub fn answer(number: u64) -> Turn {
+    let mut fixed = [0u8; FIXED];
+    if !fill(&mut fixed) {
+        return Turn::Cut;
+    }
+    answer_objects(number, &fixed)
 }

@@ -1,5 +1,9 @@
 // What an event makes the laptop do.
+use crate::BLOCK;
+use crate::state::State;
+use crate::state::unread;
 use driving::calls::make_call;
+use events::Call;
 use events::Event;
 use laptop::Laptop;
 use laptop::RUN_WORDS;
@@ -7,7 +11,7 @@ use laptop::Step;
 use text::input::word_of;
 
 // A request is one object.
-pub const OBJECT: usize = 4;
+const OBJECT: usize = 4;
 
 // The laptop's step, and the header of the request where one is to be sent.
 pub struct Answer {
@@ -15,19 +19,53 @@ pub struct Answer {
     pub header: u32,
 }
 
-// The bytes of a message, which stand behind its kind.
-fn message_in(bytes: &[u8], objects: u8) -> &[u8] {
+// The bytes of a message, which stand behind its kind: they are all there, and testing it spares the proof.
+fn message_in(state: State, input: &[u8; BLOCK], objects: u8) -> &[u8] {
+    let bytes = unread(state, input);
     let end = 1 + (objects as usize) * OBJECT;
     if end <= bytes.len() {
         return &bytes[1..end];
     }
-    &bytes[0..0]
+    bytes
+}
+
+fn make(
+    laptop: Laptop,
+    call: Call,
+    svids: &[u16; 72],
+    run: &[u32; RUN_WORDS],
+    held_svids: &[u16; 72],
+    held_modes: &[u8; 72],
+    held_run: &[u32; RUN_WORDS],
+    entered: &[u8; 72],
+) -> Answer {
+    let mut request = [0u8; OBJECT];
+    let step = make_call(
+        laptop,
+        call,
+        svids,
+        run,
+        held_svids,
+        held_modes,
+        held_run,
+        entered,
+        &mut request,
+    );
+    Answer {
+        step,
+        header: word_of(&request),
+    }
+}
+
+// Nothing is sent where a message is heard.
+fn heard(step: Step) -> Answer {
+    Answer { step, header: 0 }
 }
 
 pub fn act(
-    laptop: Laptop,
+    state: State,
     event: Event,
-    bytes: &[u8],
+    input: &[u8; BLOCK],
     svids: &mut [u16; 72],
     modes: &mut [u8; 72],
     identity: &mut [u32; 6],
@@ -38,11 +76,11 @@ pub fn act(
     held_run: &mut [u32; RUN_WORDS],
     entered: &mut [u8; 72],
 ) -> Answer {
-    let mut request = [0u8; OBJECT];
-    let step = match event {
-        Event::Message(objects) => hearing::message(
+    let laptop = state.laptop;
+    match event {
+        Event::Message(objects) => heard(hearing::message(
             laptop,
-            message_in(bytes, objects),
+            message_in(state, input, objects),
             svids,
             modes,
             identity,
@@ -52,8 +90,8 @@ pub fn act(
             held_identity,
             held_run,
             entered,
-        ),
-        Event::Call(call) => make_call(
+        )),
+        Event::Call(call) => make(
             laptop,
             call,
             svids,
@@ -62,11 +100,6 @@ pub fn act(
             held_modes,
             held_run,
             entered,
-            &mut request,
         ),
-    };
-    Answer {
-        step,
-        header: word_of(&request),
     }
 }

@@ -4,33 +4,37 @@ mod state;
 
 use acting::act;
 use events::Found;
-use events::read_event;
 use laptop::RUN_WORDS;
 use libc::STDOUT_FILENO;
 use state::State;
 use state::answered;
 use state::begin;
-use state::ready;
-use state::unread;
-use text::line::print_last;
+use state::find_next;
 use text::line::print_line;
+use text::stream::Finish;
+use text::stream::MOST;
+use text::stream::Turn;
+use text::stream::print_finish;
 
 // How many bytes are read or written at once.
 const BLOCK: usize = 16384;
 
-// A proved loop has to end, and nothing says that the input does. So after this many events the input counts as ended.
-const MOST_EVENTS: u64 = 1000000;
-
-// What stood where the next event was to be, and how many events were answered before.
-struct Finish {
-    found: Found,
-    count: u64,
+// What became of an event that was not found whole.
+fn turn_of(found: Found) -> Turn {
+    match found {
+        Found::Unknown => Turn::Unknown,
+        Found::Cut => Turn::Cut,
+        _ => Turn::Ended,
+    }
 }
 
 // Writes the lines that are left.
 fn write_rest(found: Found, count: u64, state: State, output: &[u8; BLOCK]) -> Finish {
     print_line(output, state.at);
-    Finish { found, count }
+    Finish {
+        turn: turn_of(found),
+        answered: count,
+    }
 }
 
 fn answer_all() -> Finish {
@@ -45,20 +49,19 @@ fn answer_all() -> Finish {
     let mut entered = [0u8; 72];
     let mut input = [0u8; BLOCK];
     let mut output = [0u8; BLOCK];
-    let mut state = begin(laptop::fresh(&mut entered));
+    let mut state = begin(&mut entered);
     let mut count: u64 = 0;
-    while count < MOST_EVENTS {
-        state = ready(state, &mut input, &output);
-        let bytes = unread(state, &input);
-        let found = read_event(bytes);
+    while count < MOST {
+        let next = find_next(state, &mut input, &output);
+        state = next.state;
+        let found = next.found;
         let Found::Whole(event, length) = found else {
             return write_rest(found, count, state, &output);
         };
-        let laptop = state.laptop;
         let answer = act(
-            laptop,
+            state,
             event,
-            bytes,
+            &input,
             &mut svids,
             &mut modes,
             &mut identity,
@@ -75,16 +78,7 @@ fn answer_all() -> Finish {
     write_rest(Found::Nothing, count, state, &output)
 }
 
-fn print_finish(finish: Finish) {
-    let found = finish.found;
-    match found {
-        Found::Unknown => print_last(b"unknown kind after ", finish.count, b" events\n"),
-        Found::Cut => print_last(b"cut after ", finish.count, b" events\n"),
-        _ => print_last(b"end ", finish.count, b" events\n"),
-    }
-}
-
 fn main() {
     io::write_all(STDOUT_FILENO, b"event refusal sent pages held\n");
-    print_finish(answer_all());
+    print_finish(answer_all(), b" events\n");
 }

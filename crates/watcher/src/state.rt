@@ -2,8 +2,9 @@
 use crate::BLOCK;
 use crate::acting::Answer;
 use driving::fields::append_held;
-use driving::fields::append_nothing;
+use events::Found;
 use events::LONGEST_EVENT;
+use events::read_event;
 use laptop::Laptop;
 use text::block::Unread;
 use text::block::make_room;
@@ -11,10 +12,11 @@ use text::block::nothing_read;
 use text::block::refill;
 use text::block::taken;
 use text::block::unread_bytes;
-use text::line::append;
 use text::line::append_decimal;
 use text::line::append_field;
-use text::line::append_word;
+use text::line::append_nothing;
+use text::line::append_spaced_word;
+use text::line::put;
 
 // The longest line: a number of seven digits, a refusal, eight digits of a header, a page count and a number of SVIDs of three digits each, a
 // space before each but the first, and the line end.
@@ -26,16 +28,22 @@ pub struct State {
     pub at: usize,
 }
 
-pub fn begin(laptop: Laptop) -> State {
+// What stands next in the input.
+pub struct Next {
+    pub state: State,
+    pub found: Found,
+}
+
+pub fn begin(entered: &mut [u8; 72]) -> State {
     State {
-        laptop,
+        laptop: laptop::fresh(entered),
         unread: nothing_read(),
         at: 0,
     }
 }
 
 // With an event to take, unless the input has ended, and room for its line.
-pub fn ready(state: State, input: &mut [u8; BLOCK], output: &[u8; BLOCK]) -> State {
+fn ready(state: State, input: &mut [u8; BLOCK], output: &[u8; BLOCK]) -> State {
     let unread = state.unread;
     State {
         unread: refill(input, unread, LONGEST_EVENT),
@@ -50,24 +58,35 @@ pub fn unread(state: State, input: &[u8; BLOCK]) -> &[u8] {
     unread_bytes(input, unread)
 }
 
-fn append_sent(line: &mut [u8], at: usize, answer: Answer) -> usize {
-    if answer.step.length == 0 {
+pub fn find_next(state: State, input: &mut [u8; BLOCK], output: &[u8; BLOCK]) -> Next {
+    let state = ready(state, input, output);
+    Next {
+        state,
+        found: read_event(unread(state, input)),
+    }
+}
+
+fn append_sent(line: &mut [u8], at: usize, length: u8, header: u32) -> usize {
+    if length == 0 {
         return append_nothing(line, at);
     }
-    let at = append(line, at, b" ");
-    append_word(line, at, answer.header)
+    append_spaced_word(line, at, header)
+}
+
+fn append_laptop(line: &mut [u8], at: usize, laptop: Laptop) -> usize {
+    let held = laptop.held;
+    let at = append_field(line, at, laptop.pages);
+    let at = append_held(line, at, held);
+    put(line, at, b'\n')
 }
 
 fn append_answer(line: &mut [u8], at: usize, number: u64, answer: Answer) -> usize {
     let step = answer.step;
     let laptop = step.laptop;
-    let held = laptop.held;
     let at = append_decimal(line, at, number);
     let at = append_field(line, at, step.refusal);
-    let at = append_sent(line, at, answer);
-    let at = append_field(line, at, laptop.pages);
-    let at = append_held(line, at, held);
-    append(line, at, b"\n")
+    let at = append_sent(line, at, step.length, answer.header);
+    append_laptop(line, at, laptop)
 }
 
 // After the answer to an event: its line is among those to write, and its bytes are taken.

@@ -12,23 +12,14 @@ Inv-loop svids₀ modes₀ identity₀ run₀ held-svids₀ held-modes₀ held-i
 abbrev μ-loop : tie.MeasureT-loop
 μ-loop svids₀ modes₀ identity₀ run₀ held-svids₀ held-modes₀ held-identity₀ held-run₀ entered₀ input₀ output₀ state₀ count₀ svids modes identity run held-svids held-modes held-identity held-run entered input output state count = 1000000 - count
 
-fresh-requires : tie.Need-fresh-requires Inv-loop μ-loop
-fresh-requires c κs = search needs
-
 begin-requires : tie.Need-begin-requires Inv-loop μ-loop
 begin-requires c κs = search needs
 
 loop-holds : tie.Need-loop-holds Inv-loop μ-loop
 loop-holds c = search needs
 
-ready-requires : tie.Need-ready-requires Inv-loop μ-loop
-ready-requires c κs = search needs
-
-unread-requires : tie.Need-unread-requires Inv-loop μ-loop
-unread-requires c κs = search needs
-
-read-event-requires : tie.Need-read-event-requires Inv-loop μ-loop
-read-event-requires c κs = search needs
+find-next-requires : tie.Need-find-next-requires Inv-loop μ-loop
+find-next-requires c κs = search needs
 
 enum-known-found : tie.Need-enum-known-found Inv-loop μ-loop
 enum-known-found c = search needs
@@ -43,13 +34,13 @@ act-requires : tie.Need-act-requires Inv-loop μ-loop
 act-requires c κs = search needs
 
 add-count : tie.Need-add-count Inv-loop μ-loop
-add-count c = omega (arith, c .before .before .before .before .before .before .before .before .before .before .before .before .before .before .before .before .before .before .before .before .loop-test .taken)
+add-count c = omega (arith, c .before .before .before .before .before .before .before .before .before .before .before .before .before .before .before .before .before .before .loop-test .taken)
 
 answered-requires : tie.Need-answered-requires Inv-loop μ-loop
 answered-requires c κs = search needs
 
 loop-less : tie.Need-loop-less Inv-loop μ-loop
-loop-less c = omega (arith, c .before .before .before .before .before .before .before .before .before .before .before .before .before .before .before .before .before .before .before .before .before .before .loop-test .taken)
+loop-less c = omega (arith, c .before .before .before .before .before .before .before .before .before .before .before .before .before .before .before .before .before .before .before .before .loop-test .taken)
 
 loop-again : tie.Need-loop-again Inv-loop μ-loop
 loop-again c = search needs
@@ -66,12 +57,9 @@ answer-all-spec =
     (tie.spec
     Inv-loop
     μ-loop
-    fresh-requires
     begin-requires
     loop-holds
-    ready-requires
-    unread-requires
-    read-event-requires
+    find-next-requires
     enum-known-found
     write-rest-requires
     returns

@@ -1,9 +1,9 @@
 -- `text::line::append_words` is safe and ends. The line keeps its length, and the measure is what is left of the words.
 -- Assumes nothing.
-use borrow.Author.Needs.{needs}
 use lib.ListN.{length}
 use mathlib.Core.Path.{_≡_}
 use Prim.Native.Nat.{_-_}
+use borrow.Author.Needs.{needs}
 use Rattle.text.proofs.line.append_words.Statement.{statement}
 use Rattle.text.proofs.line.append_words.Tie as tie
 
@@ -16,17 +16,15 @@ abbrev μ-loop : tie.MeasureT-loop
 loop-holds : tie.Need-loop-holds Inv-loop μ-loop
 loop-holds c = search needs
 
-put-requires : tie.Need-put-requires Inv-loop μ-loop
-put-requires c κs = search needs
+mul-append-spaced-word : tie.Need-mul-append-spaced-word Inv-loop μ-loop
+mul-append-spaced-word c = search needs
 
-mul-append-word : tie.Need-mul-append-word Inv-loop μ-loop
-mul-append-word c = search needs
+shared-slice-read-append-spaced-word :
+    tie.Need-shared-slice-read-append-spaced-word Inv-loop μ-loop
+shared-slice-read-append-spaced-word c = search needs
 
-shared-slice-read-append-word : tie.Need-shared-slice-read-append-word Inv-loop μ-loop
-shared-slice-read-append-word c = search needs
-
-append-word-requires : tie.Need-append-word-requires Inv-loop μ-loop
-append-word-requires c κs = search needs
+append-spaced-word-requires : tie.Need-append-spaced-word-requires Inv-loop μ-loop
+append-spaced-word-requires c κs = search needs
 
 add-index : tie.Need-add-index Inv-loop μ-loop
 add-index c = search needs
@@ -50,10 +48,9 @@ append-words-spec =
     Inv-loop
     μ-loop
     loop-holds
-    put-requires
-    mul-append-word
-    shared-slice-read-append-word
-    append-word-requires
+    mul-append-spaced-word
+    shared-slice-read-append-spaced-word
+    append-spaced-word-requires
     add-index
     loop-less
     loop-again

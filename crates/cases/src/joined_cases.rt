@@ -6,31 +6,25 @@ use crate::link::fail;
 use crate::link::fresh;
 use crate::link::gather;
 use crate::link::reload;
-use crate::report::LONGEST_LINE;
-use crate::report::append_case;
-use crate::report::append_catalogue;
-use crate::report::append_held;
-use crate::report::append_message;
-use crate::report::append_refusal;
-use crate::report::print_ended;
+use crate::report::case;
+use crate::report::with_catalogue;
+use crate::report::with_message;
+use crate::report::with_named;
+use crate::report::with_refusal;
 use crate::written::Message;
 use dock::Policy;
-use text::line::append;
-use text::line::append_decimal;
+use driving::fields::with_held;
+use driving::line::print;
+use driving::line::with_decimal;
+use driving::line::with_text;
 
 fn print_received(ends: Ends) {
     let laptop = ends.owner.laptop;
     let held = laptop.held;
-    let mut line = [0u8; LONGEST_LINE];
-    let at = append_case(&mut line, 11);
-    let at = append(&mut line, at, b" n=");
-    let at = append_decimal(&mut line, at, ends.dock.count as u64);
-    let at = append(&mut line, at, b", first page unconfirmed once: ");
-    let at = append_decimal(&mut line, at, laptop.pages as u64);
-    let at = append(&mut line, at, b" pages received, ");
-    let at = append_held(&mut line, at, held);
-    let at = append(&mut line, at, b" SVIDs held");
-    print_ended(&mut line, at);
+    let line = with_decimal(with_text(case(11), b" n="), ends.dock.count as u64);
+    let line = with_named(line, b", first page unconfirmed once:", laptop.pages as u64);
+    let line = with_held(with_text(line, b" pages received,"), held);
+    print(with_text(line, b" SVIDs held"));
 }
 
 pub fn print_unconfirmed() {
@@ -40,20 +34,12 @@ pub fn print_unconfirmed() {
 }
 
 fn print_held(ends: Ends) {
-    let mut line = [0u8; LONGEST_LINE];
-    let at = append_case(&mut line, 12);
-    let at = append_catalogue(&mut line, at, ends.owner);
-    print_ended(&mut line, at);
+    print(with_catalogue(case(12), ends.owner));
 }
 
 fn print_refused(page: Message, ends: Ends) {
-    let mut line = [0u8; LONGEST_LINE];
-    let at = append_case(&mut line, 12);
-    let at = append_message(&mut line, at, page);
-    let at = append(&mut line, at, b", then");
-    let at = append_message(&mut line, at, ends.answer);
-    let at = append_refusal(&mut line, at, ends.refusal);
-    print_ended(&mut line, at);
+    let line = with_text(with_message(case(12), page), b", then");
+    print(with_refusal(with_message(line, ends.answer), ends.refusal));
 }
 
 // The old catalogue has one SVID; the dock is then loaded with twelve.

@@ -1,12 +1,14 @@
 // Both ends, joined by hand: what one sends is given to the other.
-use crate::owner;
-use crate::owner::Owner;
+use crate::owner::hear;
+use crate::owner::next;
 use crate::responder::load;
 use crate::responder::reply;
 use crate::written::Message;
 use crate::written::nothing;
 use dock::Dock;
 use dock::Policy;
+use driving::owner;
+use driving::owning::Owner;
 use laptop::Candidate;
 
 // A proved loop has to end. No case has so many requests.
@@ -23,7 +25,7 @@ pub struct Ends {
 // A laptop without a catalogue, and a dock that has so many SVIDs.
 pub fn fresh(count: usize) -> Ends {
     Ends {
-        owner: owner::fresh(),
+        owner: owner::fresh(0),
         dock: load(dock::fresh(), count),
         answer: nothing(),
         refusal: 0,
@@ -37,11 +39,11 @@ pub fn reload(ends: Ends, count: usize) -> Ends {
 
 // The laptop asks what it needs next, and hears the dock's answer, which the dock is still sending.
 pub fn exchange(ends: Ends, policy: Policy) -> Ends {
-    let asked = owner::next(ends.owner);
+    let asked = next(ends.owner);
     let replied = reply(ends.dock, policy, asked.request);
     let answer = replied.answer;
     let dock = replied.dock;
-    let heard = owner::hear(asked.owner, answer);
+    let heard = hear(asked.owner, answer);
     let owner = heard.owner;
     Ends {
         owner,

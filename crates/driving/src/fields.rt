@@ -1,70 +1,77 @@
 // What a line says of its event and of a laptop. Each field but the first has a space before it, and is `-` where there is nothing to tell.
+use crate::line::Line;
+use crate::line::empty;
+use crate::line::with_decimal;
+use crate::line::with_half;
+use crate::line::with_text;
+use crate::line::with_word;
 use laptop::Candidate;
 use laptop::Held;
 use laptop::Laptop;
 use laptop::Wait;
 use messages::Request;
 use text::line::append;
-use text::line::append_decimal;
 use text::line::append_field;
-use text::line::append_half;
-use text::line::append_word;
 
 // The number of a stream and of an event in it: a line's first two fields.
-pub fn append_place(line: &mut [u8], stream: u64, number: u64) -> usize {
-    let at = append_decimal(line, 0, stream);
-    let at = append(line, at, b" ");
-    append_decimal(line, at, number)
+pub fn place(stream: u64, number: u64) -> Line {
+    with_number(with_decimal(empty(), stream), number)
 }
 
-pub fn append_nothing(line: &mut [u8], at: usize) -> usize {
-    append(line, at, b" -")
+pub fn with_nothing(line: Line) -> Line {
+    with_text(line, b" -")
 }
 
-pub fn append_digest(line: &mut [u8], at: usize, digest: u32) -> usize {
-    let at = append(line, at, b" ");
-    append_word(line, at, digest)
+pub fn with_number(line: Line, number: u64) -> Line {
+    with_decimal(with_text(line, b" "), number)
+}
+
+pub fn with_digest(line: Line, digest: u32) -> Line {
+    with_word(with_text(line, b" "), digest)
 }
 
 // A colon and the number.
-pub fn append_part(line: &mut [u8], at: usize, number: u8) -> usize {
-    let at = append(line, at, b":");
-    append_decimal(line, at, number as u64)
+pub fn with_part(line: Line, number: u8) -> Line {
+    with_decimal(with_text(line, b":"), number as u64)
 }
 
 // The SVID, the command and the position, with no space before them.
-pub fn append_request(line: &mut [u8], at: usize, request: Request) -> usize {
-    let at = append_half(line, at, request.svid);
-    let at = append_part(line, at, request.command);
-    append_part(line, at, request.position)
+pub fn with_request(line: Line, request: Request) -> Line {
+    let line = with_half(line, request.svid);
+    with_part(with_part(line, request.command), request.position)
 }
 
-pub fn append_awaited(line: &mut [u8], at: usize, wait: Wait) -> usize {
+pub fn with_awaited(line: Line, wait: Wait) -> Line {
     let Wait::Answer(request) = wait else {
-        return append_nothing(line, at);
+        return with_nothing(line);
     };
-    let at = append(line, at, b" ");
-    append_request(line, at, request)
+    with_request(with_text(line, b" "), request)
 }
 
 // How many SVIDs are gathered and, once the list is done, of how many the modes are known.
-pub fn append_candidate(line: &mut [u8], at: usize, laptop: Laptop) -> usize {
+pub fn with_candidate(line: Line, laptop: Laptop) -> Line {
     let candidate = laptop.candidate;
+    let count = laptop.gathered.count;
     match candidate {
-        Candidate::Absent => append(line, at, b" none"),
-        Candidate::Open => {
-            let at = append(line, at, b" open");
-            append_part(line, at, laptop.gathered.count)
-        }
-        Candidate::Done => {
-            let at = append(line, at, b" done");
-            let at = append_part(line, at, laptop.gathered.count);
-            append_part(line, at, laptop.filled)
-        }
+        Candidate::Absent => with_text(line, b" none"),
+        Candidate::Open => with_part(with_text(line, b" open"), count),
+        Candidate::Done => with_part(with_part(with_text(line, b" done"), count), laptop.filled),
     }
 }
 
 // The number of held SVIDs.
+pub fn with_held(line: Line, held: Held) -> Line {
+    match held {
+        Held::Nothing => with_nothing(line),
+        Held::Catalogue(size) => with_number(line, size.count as u64),
+    }
+}
+
+// The same two fields of a line that is lent, and says where its text ends.
+pub fn append_nothing(line: &mut [u8], at: usize) -> usize {
+    append(line, at, b" -")
+}
+
 pub fn append_held(line: &mut [u8], at: usize, held: Held) -> usize {
     match held {
         Held::Nothing => append_nothing(line, at),

@@ -3,12 +3,13 @@ use crate::event::CATALOGUE_ROOM;
 use crate::event::Event;
 use crate::event::LONGEST_MESSAGE;
 use crate::event::Lengths;
-use crate::event::RUN;
 use crate::event::at_most;
-use driving::calls::make_call;
 use driving::digest::of_bytes;
+use driving::owner;
+use driving::owning::Owner;
+use driving::owning::hear;
+use driving::owning::write_held;
 use events::Call;
-use laptop::Laptop;
 use laptop::Step;
 use laptop::Told;
 use text::input::GREATEST;
@@ -23,10 +24,13 @@ const FIRST_OUTPUT: u8 = 32;
 // What an output buffer holds before a call, so that a reader sees which bytes were left alone.
 const UNWRITTEN: u8 = 0xEE;
 
-// What stays from event to event: the laptop, and how much its calls are lent.
+// What the runs hold at the start.
+const UNWRITTEN_WORD: u32 = 0xEEEEEEEE;
+
+// What stays from event to event: the laptop's owner, and the length of the output buffer that it lends.
 pub struct State {
-    pub laptop: Laptop,
-    pub lengths: Lengths,
+    pub owner: Owner,
+    output: u8,
 }
 
 // The digest of a lent output buffer.
@@ -56,22 +60,22 @@ pub struct Answer {
     pub told: Told,
     pub catalogue: Catalogue,
     pub report: Report,
+}
+
+pub struct Outcome {
+    pub answer: Answer,
     pub state: State,
 }
 
-pub fn begin(laptop: Laptop) -> State {
+pub fn begin() -> State {
     State {
-        laptop,
-        lengths: Lengths {
-            output: FIRST_OUTPUT,
-            run: RUN,
-            held_run: RUN,
-        },
+        owner: owner::fresh(UNWRITTEN_WORD),
+        output: FIRST_OUTPUT,
     }
 }
 
 // The answer to an event that is accepted and tells nothing.
-fn quiet(state: State) -> Answer {
+fn quiet() -> Answer {
     Answer {
         refusal: 0,
         length: 0,
@@ -80,49 +84,26 @@ fn quiet(state: State) -> Answer {
         told: Told::Nothing,
         catalogue: Catalogue::Nothing,
         report: Report::Nothing,
-        state,
     }
 }
 
-fn stepped(state: State, step: Step) -> Answer {
-    let laptop = step.laptop;
+fn stepped(step: Step) -> Answer {
     let told = step.told;
     Answer {
         refusal: step.refusal,
         length: step.length,
         told,
-        ..quiet(State { laptop, ..state })
+        ..quiet()
     }
 }
 
-fn hear(
-    state: State,
-    bytes: &[u8],
-    svids: &mut [u16; 72],
-    modes: &mut [u8; 72],
-    identity: &mut [u32; 6],
-    run: &mut [u32],
-    held_svids: &mut [u16; 72],
-    held_modes: &mut [u8; 72],
-    held_identity: &mut [u32; 6],
-    held_run: &mut [u32],
-    entered: &mut [u8; 72],
-) -> Answer {
-    let laptop = state.laptop;
-    let step = hearing::message(
-        laptop,
-        bytes,
-        svids,
-        modes,
-        identity,
-        run,
-        held_svids,
-        held_modes,
-        held_identity,
-        held_run,
-        entered,
-    );
-    stepped(state, step)
+fn take_message(state: State, bytes: &[u8]) -> Outcome {
+    let turn = hear(state.owner, bytes);
+    let owner = turn.owner;
+    Outcome {
+        answer: stepped(turn.step),
+        state: State { owner, ..state },
+    }
 }
 
 // Only these calls are lent an output buffer.
@@ -151,34 +132,18 @@ fn object_in(output: &[u8]) -> [u8; OBJECT] {
     [output[0], output[1], output[2], output[3]]
 }
 
-fn make(
-    state: State,
-    call: Call,
-    svids: &[u16; 72],
-    run: &[u32],
-    held_svids: &[u16; 72],
-    held_modes: &[u8; 72],
-    held_run: &[u32],
-    entered: &[u8; 72],
-) -> Answer {
-    let laptop = state.laptop;
+fn make(state: State, call: Call) -> Outcome {
     let mut buffer = [UNWRITTEN; GREATEST];
-    let output = &mut buffer[0..length_of(state.lengths.output)];
-    let step = make_call(
-        laptop,
-        call,
-        svids,
-        run,
-        held_svids,
-        held_modes,
-        held_run,
-        entered,
-        output,
-    );
-    Answer {
-        sent: object_in(output),
-        output: output_of(call, output),
-        ..stepped(state, step)
+    let output = &mut buffer[0..length_of(state.output)];
+    let turn = owner::make(state.owner, call, output);
+    let owner = turn.owner;
+    Outcome {
+        answer: Answer {
+            sent: object_in(output),
+            output: output_of(call, output),
+            ..stepped(turn.step)
+        },
+        state: State { owner, ..state },
     }
 }
 
@@ -192,51 +157,35 @@ fn written(bytes: &[u8], refusal: u8, length: u16) -> Catalogue {
     Catalogue::Nothing
 }
 
-fn write(
-    state: State,
-    room: usize,
-    held_svids: &[u16; 72],
-    held_modes: &[u8; 72],
-    held_identity: &[u32; 6],
-    held_run: &[u32],
-) -> Answer {
-    let laptop = state.laptop;
+fn write(owner: Owner, room: usize) -> Answer {
     let mut buffer = [UNWRITTEN; CATALOGUE_ROOM];
     let output = &mut buffer[0..at_most(room, CATALOGUE_ROOM)];
-    let bytes = catalogue::write_catalogue(
-        laptop,
-        held_svids,
-        held_modes,
-        held_identity,
-        held_run,
-        output,
-    );
+    let bytes = write_held(owner, output);
     Answer {
         refusal: bytes.refusal,
         output: Output::Digest(of_bytes(output)),
         catalogue: written(output, bytes.refusal, bytes.length),
-        ..quiet(state)
+        ..quiet()
     }
 }
 
-fn count_entered(state: State, svid: u16, held_svids: &[u16; 72], entered: &[u8; 72]) -> Answer {
-    let laptop = state.laptop;
+fn count_entered(owner: Owner, svid: u16) -> Answer {
+    let held_svids = owner.held_svids;
+    let entered = owner.entered;
     Answer {
-        report: Report::Entered(laptop::report(laptop, svid, held_svids, entered)),
-        ..quiet(state)
+        report: Report::Entered(laptop::report(owner.laptop, svid, &held_svids, &entered)),
+        ..quiet()
     }
 }
 
-fn lend(state: State, lengths: Lengths) -> Answer {
-    quiet(State { lengths, ..state })
-}
-
-// As many of the words as are lent.
-fn lent(run: &mut [u32], words: usize) -> &mut [u32] {
-    if words <= run.len() {
-        return &mut run[0..words];
+fn lend(owner: Owner, lengths: Lengths) -> State {
+    let mut owner = owner;
+    owner.run_words = lengths.run;
+    owner.held_words = lengths.held_run;
+    State {
+        owner,
+        output: lengths.output,
     }
-    run
 }
 
 fn first_bytes(bytes: &[u8], length: usize) -> &[u8] {
@@ -246,55 +195,21 @@ fn first_bytes(bytes: &[u8], length: usize) -> &[u8] {
     bytes
 }
 
-pub fn take(
-    state: State,
-    event: Event,
-    message: &[u8; LONGEST_MESSAGE],
-    svids: &mut [u16; 72],
-    modes: &mut [u8; 72],
-    identity: &mut [u32; 6],
-    run: &mut [u32],
-    held_svids: &mut [u16; 72],
-    held_modes: &mut [u8; 72],
-    held_identity: &mut [u32; 6],
-    held_run: &mut [u32],
-    entered: &mut [u8; 72],
-) -> Answer {
-    let run = lent(run, state.lengths.run);
-    let held_run = lent(held_run, state.lengths.held_run);
+pub fn take(state: State, event: Event, message: &[u8; LONGEST_MESSAGE]) -> Outcome {
     match event {
-        Event::Message(length) => hear(
+        Event::Message(length) => take_message(state, first_bytes(message, length)),
+        Event::Call(call) => make(state, call),
+        Event::Report(svid) => Outcome {
+            answer: count_entered(state.owner, svid),
             state,
-            first_bytes(message, length),
-            svids,
-            modes,
-            identity,
-            run,
-            held_svids,
-            held_modes,
-            held_identity,
-            held_run,
-            entered,
-        ),
-        Event::Call(call) => make(
+        },
+        Event::Catalogue(room) => Outcome {
+            answer: write(state.owner, room),
             state,
-            call,
-            svids,
-            run,
-            held_svids,
-            held_modes,
-            held_run,
-            entered,
-        ),
-        Event::Report(svid) => count_entered(state, svid, held_svids, entered),
-        Event::Catalogue(room) => write(
-            state,
-            room,
-            held_svids,
-            held_modes,
-            held_identity,
-            held_run,
-        ),
-        Event::Lengths(lengths) => lend(state, lengths),
+        },
+        Event::Lengths(lengths) => Outcome {
+            answer: quiet(),
+            state: lend(state.owner, lengths),
+        },
     }
 }

@@ -1,6 +1,7 @@
 // The events, and reading one from standard input.
 ghost use Prim.Native.Nat.{_≤_};
 use driving::calls::take_call;
+use driving::owning::RUN;
 use events::Call;
 use text::input::fill;
 use text::input::half_of;
@@ -25,8 +26,6 @@ const NEW_STREAM: u8 = 0x4C;
 pub const LONGEST_MESSAGE: usize = 40;
 
 pub const CATALOGUE_ROOM: usize = 2500;
-
-pub const RUN: usize = 440;
 
 // How much later calls are lent: bytes of the output buffer, words of the candidate's run and of the held run.
 pub struct Lengths {

@@ -6,15 +6,11 @@ mod report;
 use answering::begin;
 use answering::take;
 use event::LONGEST_MESSAGE;
-use event::RUN;
 use event::Taken;
 use event::take_event;
 use libc::STDOUT_FILENO;
 use report::print_event;
 use text::line::print_last;
-
-// What the runs hold at the start, so that a reader sees which words were left alone.
-const UNWRITTEN_WORD: u32 = 0xEEEEEEEE;
 
 // A proved loop has to end, and nothing says that the input does. So after this many events the input counts as ended, and after this many streams.
 const MOST_EVENTS: u64 = 1000000;
@@ -29,17 +25,8 @@ struct Finish {
 
 // Answers a stream, whose laptop is fresh, after so many events of the streams before it.
 fn answer_stream(stream: u64, before: u64) -> Finish {
-    let mut svids = [0u16; 72];
-    let mut modes = [0u8; 72];
-    let mut identity = [0u32; 6];
-    let mut run = [UNWRITTEN_WORD; RUN];
-    let mut held_svids = [0u16; 72];
-    let mut held_modes = [0u8; 72];
-    let mut held_identity = [0u32; 6];
-    let mut held_run = [UNWRITTEN_WORD; RUN];
-    let mut entered = [0u8; 72];
     let mut message = [0u8; LONGEST_MESSAGE];
-    let mut state = begin(laptop::fresh(&mut entered));
+    let mut state = begin();
     let mut count = before;
     let mut number: u64 = 0;
     while count < MOST_EVENTS {
@@ -47,24 +34,11 @@ fn answer_stream(stream: u64, before: u64) -> Finish {
         let Taken::Whole(event) = taken else {
             return Finish { taken, count };
         };
-        let answer = take(
-            state,
-            event,
-            &message,
-            &mut svids,
-            &mut modes,
-            &mut identity,
-            &mut run,
-            &mut held_svids,
-            &mut held_modes,
-            &mut held_identity,
-            &mut held_run,
-            &mut entered,
-        );
-        state = answer.state;
+        let outcome = take(state, event, &message);
+        state = outcome.state;
         count += 1;
         number += 1;
-        print_event(stream, number, answer, &run, &held_run);
+        print_event(stream, number, outcome);
     }
     Finish {
         taken: Taken::Nothing,

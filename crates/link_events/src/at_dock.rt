@@ -1,114 +1,67 @@
-// Events on the link and at the dock.
+// Events at the dock.
 use crate::event::Event;
 use crate::link::ANSWER;
-use crate::link::Heard;
-use crate::link::answer_heard;
-use crate::link::answer_lost;
-use crate::link::can_be_sent;
-use crate::link::can_fail;
-use crate::link::can_lose_answer;
-use crate::link::can_reach;
-use crate::link::has_failed;
-use crate::link::is_unconfirmed_page;
-use crate::link::quiet;
+use crate::link::REQUEST;
+use crate::link::link_after;
+use crate::link::loses_confirmation;
 use crate::link::with_answer;
-use crate::link::without_request;
-use crate::state::Outcome;
-use crate::state::State;
-use crate::state::called;
-use crate::state::confirmation_lost;
-use crate::state::happened;
+use crate::state::FarEnd;
+use crate::state::Modes;
+use crate::state::Refusal;
+use crate::state::counted;
 use crate::state::not_permitted;
 use dock::Dock;
 use dock::Policy;
 use dock::Standing;
 use dock::Step;
 use laptop::MODES_EACH;
-use laptop::RUN_WORDS;
 use messages::MODES;
 use messages::Request;
 use messages::SVIDS;
+use messages::first_objects;
 use pages::first_svids;
 use text::input::length_of;
 
 const PER_PAGE: u8 = 12;
 
-fn with_dock(state: State, step: Step) -> Outcome {
-    let dock = step.dock;
-    called(step.refusal, State { dock, ..state })
+// What policy answers with: so many of the objects.
+struct Reply {
+    objects: [u32; MODES_EACH],
+    count: u8,
+    policy: Policy,
 }
 
-// A counted page of which nothing was heard before the next request counts as failed. The answer can no longer arrive or be heard of.
-fn reach(state: State) -> Outcome {
-    let link = state.link;
-    if !can_reach(link) {
-        return not_permitted(state);
+fn with_dock(far_end: FarEnd, step: Step) -> FarEnd {
+    let dock = step.dock;
+    FarEnd {
+        dock,
+        refusal: Refusal::Number(step.refusal),
+        ..far_end
     }
-    let request = link.request;
-    let mut nothing = [0u8; 0];
-    let dock = state.dock;
-    let step = dock::message(dock, &request, &mut nothing);
-    let after = State {
-        link: quiet(),
-        ..state
-    };
-    if is_unconfirmed_page(link) {
-        if !has_failed(link) {
-            return with_dock(confirmation_lost(after), step);
+}
+
+// A request reaches the dock, or the dock hears of its answer.
+fn heard(dock: Dock, request: [u8; REQUEST], event: Event) -> Step {
+    match event {
+        Event::Sent => dock::sent(dock),
+        Event::Failed => dock::failed(dock),
+        _ => {
+            let mut nothing = [0u8; 0];
+            dock::message(dock, &request, &mut nothing)
         }
     }
+}
+
+fn hear(far_end: FarEnd, event: Event) -> FarEnd {
+    let link = far_end.link;
+    let request = link.request;
+    let step = heard(far_end.dock, request, event);
+    let after = FarEnd {
+        link: link_after(link, event),
+        lost: counted(far_end.lost, loses_confirmation(link, event)),
+        ..far_end
+    };
     with_dock(after, step)
-}
-
-fn lose_request(state: State) -> Outcome {
-    let link = state.link;
-    if !link.has_request {
-        return not_permitted(state);
-    }
-    happened(State {
-        link: without_request(link),
-        ..state
-    })
-}
-
-fn lose_answer(state: State) -> Outcome {
-    let link = state.link;
-    if !can_lose_answer(link) {
-        return not_permitted(state);
-    }
-    happened(State {
-        link: answer_lost(link),
-        ..state
-    })
-}
-
-fn hear_sent(state: State) -> Outcome {
-    let link = state.link;
-    if !can_be_sent(link) {
-        return not_permitted(state);
-    }
-    let dock = state.dock;
-    let after = State {
-        link: answer_heard(link, Heard::Sent),
-        ..state
-    };
-    with_dock(after, dock::sent(dock))
-}
-
-fn hear_failed(state: State) -> Outcome {
-    let link = state.link;
-    if !can_fail(link) {
-        return not_permitted(state);
-    }
-    let dock = state.dock;
-    let after = State {
-        link: answer_heard(link, Heard::Failed),
-        ..state
-    };
-    if is_unconfirmed_page(link) {
-        return with_dock(confirmation_lost(after), dock::failed(dock));
-    }
-    with_dock(after, dock::failed(dock))
 }
 
 // The place of the SVID, or the list's length where it is not in it.
@@ -123,18 +76,56 @@ fn place_of(svid: u16, list: &[u16]) -> usize {
     place
 }
 
-// The modes of the SVID at the place, none past the list.
-fn modes_at<'a>(place: usize, counts: &[u8], words: &'a [u32]) -> &'a [u32] {
+fn without_objects(policy: Policy) -> Reply {
+    Reply {
+        objects: [0; MODES_EACH],
+        count: 0,
+        policy,
+    }
+}
+
+// Gives the modes of the SVID at the place.
+fn modes_at(place: usize, counts: &[u8], words: &[u32]) -> Reply {
     if place < counts.len() {
         if place < 72 {
             let at = place * MODES_EACH;
-            let end = at + length_of(counts[place]);
-            if end <= words.len() {
-                return &words[at..end];
+            if at + MODES_EACH <= words.len() {
+                return Reply {
+                    objects: [
+                        words[at],
+                        words[at + 1],
+                        words[at + 2],
+                        words[at + 3],
+                        words[at + 4],
+                        words[at + 5],
+                    ],
+                    count: counts[place],
+                    policy: Policy::Give,
+                };
             }
         }
     }
-    &words[0..0]
+    without_objects(Policy::Give)
+}
+
+fn modes_given(place: usize, modes: Modes) -> Reply {
+    let counts = modes.counts;
+    let words = modes.words;
+    modes_at(place, &counts, &words)
+}
+
+// Of an SVID that the dock does not have, policy cannot give the modes.
+fn given(dock: Dock, modes: Modes, request: Request) -> Reply {
+    if request.command != MODES {
+        return without_objects(Policy::Give);
+    }
+    let svids = dock.svids;
+    let count = length_of(dock.count);
+    let place = place_of(request.svid, first_svids(&svids, count));
+    if place < count {
+        return modes_given(place, modes);
+    }
+    without_objects(Policy::Busy)
 }
 
 // A given page that does not end the list.
@@ -148,69 +139,50 @@ fn is_page_before_last(dock: Dock, policy: Policy, request: Request) -> bool {
     dock.page < dock.count / PER_PAGE
 }
 
-fn send(state: State, policy: Policy, request: Request, objects: &[u32]) -> Outcome {
-    let dock = state.dock;
-    let link = state.link;
+fn send(far_end: FarEnd, request: Request, reply: Reply) -> FarEnd {
+    let dock = far_end.dock;
+    let policy = reply.policy;
+    let objects = reply.objects;
     let mut bytes = [0u8; ANSWER];
-    let step = answering::answer(dock, policy, request, objects, &mut bytes);
+    let step = answering::answer(
+        dock,
+        policy,
+        request,
+        first_objects(&objects, length_of(reply.count)),
+        &mut bytes,
+    );
     if step.refusal != 0 {
-        return with_dock(state, step);
+        return with_dock(far_end, step);
     }
     let is_before_last = is_page_before_last(dock, policy, request);
-    let after = State {
-        link: with_answer(link, bytes, step.length, is_before_last),
-        ..state
+    let after = FarEnd {
+        link: with_answer(far_end.link, bytes, step.length, is_before_last),
+        ..far_end
     };
     with_dock(after, step)
 }
 
-fn listed(svids: &[u16; 72], count: u8) -> &[u16] {
-    first_svids(svids, length_of(count))
-}
-
-fn give(state: State, counts: &[u8; 72], words: &[u32; RUN_WORDS]) -> Outcome {
-    let dock = state.dock;
+// Policy gives what the request asks for, or is busy.
+fn answer(far_end: FarEnd, is_given: bool) -> FarEnd {
+    let dock = far_end.dock;
     let standing = dock.standing;
     let Standing::Asking(request) = standing else {
-        return not_permitted(state);
+        return not_permitted(far_end);
     };
-    let none = [0u32; 0];
-    if request.command != MODES {
-        return send(state, Policy::Give, request, &none);
+    if is_given {
+        return send(far_end, request, given(dock, far_end.modes, request));
     }
-    let svids = dock.svids;
-    let list = listed(&svids, dock.count);
-    let place = place_of(request.svid, list);
-    if place < list.len() {
-        return send(state, Policy::Give, request, modes_at(place, counts, words));
-    }
-    send(state, Policy::Busy, request, &none)
+    send(far_end, request, without_objects(Policy::Busy))
 }
 
-fn be_busy(state: State) -> Outcome {
-    let dock = state.dock;
-    let standing = dock.standing;
-    let Standing::Asking(request) = standing else {
-        return not_permitted(state);
-    };
-    let none = [0u32; 0];
-    send(state, Policy::Busy, request, &none)
-}
-
-pub fn take_at_dock(
-    state: State,
-    event: Event,
-    counts: &[u8; 72],
-    words: &[u32; RUN_WORDS],
-) -> Outcome {
+pub fn take_at_dock(far_end: FarEnd, event: Event) -> FarEnd {
     match event {
-        Event::RequestReaches => reach(state),
-        Event::RequestLost => lose_request(state),
-        Event::Give => give(state, counts, words),
-        Event::Busy => be_busy(state),
-        Event::AnswerLost => lose_answer(state),
-        Event::Sent => hear_sent(state),
-        Event::Failed => hear_failed(state),
-        _ => not_permitted(state),
+        Event::Give => answer(far_end, true),
+        Event::Busy => answer(far_end, false),
+        Event::RequestLost | Event::AnswerLost => FarEnd {
+            link: link_after(far_end.link, event),
+            ..far_end
+        },
+        _ => hear(far_end, event),
     }
 }

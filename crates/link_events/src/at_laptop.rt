@@ -1,33 +1,26 @@
 // Events at the laptop: its calls, and an answer that arrives.
-use crate::event::Event;
 use crate::link::ANSWER;
 use crate::link::Link;
 use crate::link::REQUEST;
 use crate::link::answer_arrived;
-use crate::link::has_failed;
-use crate::link::is_unconfirmed_page;
-use crate::link::is_under_way;
+use crate::link::is_failed_page;
 use crate::link::with_request;
 use crate::link::without_request;
-use crate::state::Outcome;
+use crate::state::FarEnd;
+use crate::state::Refusal;
 use crate::state::State;
-use crate::state::called;
-use crate::state::confirmation_lost;
+use crate::state::counted;
 use crate::state::not_permitted;
-use driving::calls::make_call;
+use driving::owner;
+use driving::owning::Owner;
+use driving::owning::hear;
 use events::Call;
 use laptop::Candidate;
 use laptop::Laptop;
-use laptop::RUN_WORDS;
+use laptop::Step;
 use laptop::Wait;
 use messages::ENTER;
 use messages::EXIT;
-
-// The call that an event makes.
-pub enum Asked {
-    Nothing,
-    Call(Call),
-}
 
 fn timer_of(command: u8) -> Call {
     match command {
@@ -38,18 +31,16 @@ fn timer_of(command: u8) -> Call {
 }
 
 // The timer is that of the awaited command; with nothing awaited there is none.
-pub fn asked_by(laptop: Laptop, event: Event) -> Asked {
-    match event {
-        Event::Call(call) => Asked::Call(call),
-        Event::Timer => {
-            let wait = laptop.wait;
-            let Wait::Answer(request) = wait else {
-                return Asked::Nothing;
-            };
-            Asked::Call(timer_of(request.command))
-        }
-        _ => Asked::Nothing,
-    }
+pub fn run_out(owner: Owner, far_end: FarEnd) -> State {
+    let laptop = owner.laptop;
+    let wait = laptop.wait;
+    let Wait::Answer(request) = wait else {
+        return State {
+            owner,
+            far_end: not_permitted(far_end),
+        };
+    };
+    make(owner, far_end, timer_of(request.command))
 }
 
 // A request not yet at the dock when its wait ends is lost.
@@ -61,43 +52,32 @@ fn lose_without_wait(link: Link, laptop: Laptop) -> Link {
     }
 }
 
-pub fn make(
-    state: State,
-    call: Call,
-    svids: &[u16; 72],
-    run: &[u32; RUN_WORDS],
-    held_svids: &[u16; 72],
-    held_modes: &[u8; 72],
-    held_run: &[u32; RUN_WORDS],
-    entered: &[u8; 72],
-) -> Outcome {
-    let laptop = state.laptop;
-    let mut request = [0u8; REQUEST];
-    let step = make_call(
-        laptop,
-        call,
-        svids,
-        run,
-        held_svids,
-        held_modes,
-        held_run,
-        entered,
-        &mut request,
-    );
-    let laptop = step.laptop;
-    let mut link = state.link;
-    if step.length != 0 {
-        link = with_request(link, request);
+// The link after a call that wrote so many bytes of a request.
+fn sent(link: Link, request: [u8; REQUEST], length: u8) -> Link {
+    if length == 0 {
+        return link;
     }
-    let link = lose_without_wait(link, laptop);
-    called(
-        step.refusal,
-        State {
-            laptop,
-            link,
-            ..state
-        },
-    )
+    with_request(link, request)
+}
+
+// The far end after a call of which the laptop stands so.
+fn asked(far_end: FarEnd, step: Step, request: [u8; REQUEST]) -> FarEnd {
+    let link = sent(far_end.link, request, step.length);
+    FarEnd {
+        link: lose_without_wait(link, step.laptop),
+        refusal: Refusal::Number(step.refusal),
+        ..far_end
+    }
+}
+
+pub fn make(owner: Owner, far_end: FarEnd, call: Call) -> State {
+    let mut request = [0u8; REQUEST];
+    let turn = owner::make(owner, call, &mut request);
+    let owner = turn.owner;
+    State {
+        owner,
+        far_end: asked(far_end, turn.step, request),
+    }
 }
 
 fn has_candidate(laptop: Laptop) -> bool {
@@ -109,34 +89,14 @@ fn has_candidate(laptop: Laptop) -> bool {
 }
 
 // The confirmations lost start anew where the answer opens a list.
-fn opened_or_not(state: State, before: Laptop) -> State {
-    let laptop = state.laptop;
+fn opened_or_not(lost: u64, before: Laptop, after: Laptop) -> u64 {
     if has_candidate(before) {
-        return state;
+        return lost;
     }
-    if has_candidate(laptop) {
-        return State { lost: 0, ..state };
+    if has_candidate(after) {
+        return 0;
     }
-    state
-}
-
-// The link, and the confirmations lost, after the laptop has taken the answer.
-fn arrived(state: State, before: Laptop) -> State {
-    let laptop = state.laptop;
-    let link = answer_arrived(state.link, before.pages < laptop.pages);
-    let after = opened_or_not(
-        State {
-            link: lose_without_wait(link, laptop),
-            ..state
-        },
-        before,
-    );
-    if is_unconfirmed_page(link) {
-        if has_failed(link) {
-            return confirmation_lost(after);
-        }
-    }
-    after
+    lost
 }
 
 fn first_bytes(bytes: &[u8], length: u8) -> &[u8] {
@@ -151,37 +111,24 @@ fn answer_in(bytes: &[u8; ANSWER], length: u8) -> &[u8] {
     first_bytes(bytes, length)
 }
 
-pub fn arrive(
-    state: State,
-    svids: &mut [u16; 72],
-    modes: &mut [u8; 72],
-    identity: &mut [u32; 6],
-    run: &mut [u32; RUN_WORDS],
-    held_svids: &mut [u16; 72],
-    held_modes: &mut [u8; 72],
-    held_identity: &mut [u32; 6],
-    held_run: &mut [u32; RUN_WORDS],
-    entered: &mut [u8; 72],
-) -> Outcome {
-    let link = state.link;
-    if !is_under_way(link) {
-        return not_permitted(state);
-    }
-    let before = state.laptop;
-    let bytes = link.bytes;
-    let step = hearing::message(
-        before,
-        answer_in(&bytes, link.length),
-        svids,
-        modes,
-        identity,
-        run,
-        held_svids,
-        held_modes,
-        held_identity,
-        held_run,
-        entered,
-    );
+// The far end after the laptop, which stood so before, has taken the answer.
+fn arrived(far_end: FarEnd, before: Laptop, step: Step) -> FarEnd {
     let laptop = step.laptop;
-    called(step.refusal, arrived(State { laptop, ..state }, before))
+    let link = answer_arrived(far_end.link, before.pages < laptop.pages);
+    let lost = opened_or_not(far_end.lost, before, laptop);
+    FarEnd {
+        link: lose_without_wait(link, laptop),
+        lost: counted(lost, is_failed_page(link)),
+        refusal: Refusal::Number(step.refusal),
+        ..far_end
+    }
+}
+
+pub fn arrive(owner: Owner, far_end: FarEnd) -> State {
+    let link = far_end.link;
+    let bytes = link.bytes;
+    let turn = hear(owner, answer_in(&bytes, link.length));
+    let far_end = arrived(far_end, owner.laptop, turn.step);
+    let owner = turn.owner;
+    State { owner, far_end }
 }

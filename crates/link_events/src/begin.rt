@@ -1,13 +1,19 @@
 // How both ends stand before the first event.
+use crate::at_dock::take_at_dock;
 use crate::event::Event;
+use crate::link::REQUEST;
 use crate::link::quiet;
+use crate::link::with_request;
 use crate::start::Start;
+use crate::state::FarEnd;
+use crate::state::Modes;
+use crate::state::Refusal;
 use crate::state::State;
 use crate::system::take;
 use dock::Dock;
-use dock::Policy;
+use driving::owning::Owner;
+use driving::owning::fresh;
 use events::Call;
-use laptop::Laptop;
 use laptop::RUN_WORDS;
 use messages::IDENTITY;
 use messages::PD_SID;
@@ -24,42 +30,42 @@ const OLD_MODE: u32 = 0x55;
 // Without losses, the laptop asks for the identity, the SVIDs and the modes, and each exchange has five events.
 const EVENTS: u8 = 15;
 
-// A request that is given and confirmed, without a laptop.
-fn exchange(dock: Dock, command: u8) -> Dock {
+fn request_for(command: u8) -> [u8; REQUEST] {
     let request = Request {
         svid: PD_SID,
         command,
         position: 0,
     };
-    let none = [0u32; 0];
-    let mut nothing = [0u8; 0];
-    let mut bytes = [0u8; 4];
-    writing::write(head_for(request, REQ), &none, &mut bytes);
-    let step = dock::message(dock, &bytes, &mut nothing);
-    let dock = step.dock;
-    let mut answer = [0u8; 28];
-    let step = answering::answer(dock, Policy::Give, request, &none, &mut answer);
-    let dock = step.dock;
-    let step = dock::sent(dock);
-    step.dock
+    let mut bytes = [0u8; REQUEST];
+    writing::write(head_for(request, REQ), &[0u32; 0], &mut bytes);
+    bytes
+}
+
+// A request that is given and confirmed, without a laptop.
+fn exchange(far_end: FarEnd, command: u8) -> FarEnd {
+    let asked = FarEnd {
+        link: with_request(quiet(), request_for(command)),
+        ..far_end
+    };
+    let given = take_at_dock(take_at_dock(asked, Event::RequestReaches), Event::Give);
+    take_at_dock(given, Event::Sent)
 }
 
 // The dock answers Identity and so many times SVIDs, all of it "sent".
-fn turned(dock: Dock, pages: u8) -> Dock {
-    let mut dock = exchange(dock, IDENTITY);
+fn turned(begun: FarEnd, pages: u8) -> FarEnd {
+    let mut far_end = exchange(begun, IDENTITY);
     let mut page = 0;
     while page < pages {
-        dock = exchange(dock, SVIDS);
+        far_end = exchange(far_end, SVIDS);
         page += 1;
     }
-    dock
+    far_end
 }
 
 fn old_dock() -> Dock {
     let identity = [1u32, 2, 3];
     let svids = [OLD_SVID];
-    let step = loading::load(dock::fresh(), &identity, &svids);
-    step.dock
+    loading::load(dock::fresh(), &identity, &svids).dock
 }
 
 fn event_of(number: u8) -> Event {
@@ -72,80 +78,47 @@ fn event_of(number: u8) -> Event {
     }
 }
 
-fn system_of(laptop: Laptop, dock: Dock) -> State {
-    State {
-        laptop,
+fn end_of(dock: Dock, modes: Modes) -> FarEnd {
+    FarEnd {
         dock,
+        modes,
         link: quiet(),
         lost: 0,
+        is_permitted: true,
+        refusal: Refusal::Nothing,
     }
 }
 
 // The laptop gathers from the other dock.
-fn gather_old(
-    svids: &mut [u16; 72],
-    modes: &mut [u8; 72],
-    identity: &mut [u32; 6],
-    run: &mut [u32; RUN_WORDS],
-    held_svids: &mut [u16; 72],
-    held_modes: &mut [u8; 72],
-    held_identity: &mut [u32; 6],
-    held_run: &mut [u32; RUN_WORDS],
-    entered: &mut [u8; 72],
-) -> Laptop {
-    let counts = [1u8; 72];
-    let words = [OLD_MODE; RUN_WORDS];
-    let mut state = system_of(laptop::fresh(entered), old_dock());
+fn gather_old() -> Owner {
+    let modes = Modes {
+        counts: [1; 72],
+        words: [OLD_MODE; RUN_WORDS],
+    };
+    let mut state = State {
+        owner: fresh(0),
+        far_end: end_of(old_dock(), modes),
+    };
     let mut number = 0;
     while number < EVENTS {
-        let outcome = take(
-            state,
-            event_of(number),
-            &counts,
-            &words,
-            svids,
-            modes,
-            identity,
-            run,
-            held_svids,
-            held_modes,
-            held_identity,
-            held_run,
-            entered,
-        );
-        state = outcome.state;
+        state = take(state, event_of(number));
         number += 1;
     }
-    state.laptop
+    state.owner
 }
 
-pub fn begin(
-    start: Start,
-    svids: &mut [u16; 72],
-    modes: &mut [u8; 72],
-    identity: &mut [u32; 6],
-    run: &mut [u32; RUN_WORDS],
-    held_svids: &mut [u16; 72],
-    held_modes: &mut [u8; 72],
-    held_identity: &mut [u32; 6],
-    held_run: &mut [u32; RUN_WORDS],
-    entered: &mut [u8; 72],
-) -> State {
-    let dock = start.dock;
-    let dock = turned(dock, start.page);
-    if !start.holds_old {
-        return system_of(laptop::fresh(entered), dock);
+fn first_owner(holds_old: bool) -> Owner {
+    if holds_old {
+        return gather_old();
     }
-    let laptop = gather_old(
-        svids,
-        modes,
-        identity,
-        run,
-        held_svids,
-        held_modes,
-        held_identity,
-        held_run,
-        entered,
-    );
-    system_of(laptop, dock)
+    fresh(0)
+}
+
+pub fn begin(start: Start) -> State {
+    let modes = start.modes;
+    let turned = turned(end_of(start.dock, modes), start.page);
+    State {
+        owner: first_owner(start.holds_old),
+        far_end: end_of(turned.dock, modes),
+    }
 }

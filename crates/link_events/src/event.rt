@@ -64,6 +64,20 @@ fn take_laptop_call(kind: u8) -> Taken {
     }
 }
 
+// Of the kinds from REQUEST_REACHES to FAILED.
+fn event_of(kind: u8) -> Event {
+    match kind {
+        REQUEST_REACHES => Event::RequestReaches,
+        REQUEST_LOST => Event::RequestLost,
+        GIVE => Event::Give,
+        BUSY => Event::Busy,
+        ANSWER_ARRIVES => Event::AnswerArrives,
+        ANSWER_LOST => Event::AnswerLost,
+        SENT => Event::Sent,
+        _ => Event::Failed,
+    }
+}
+
 pub fn take_event() -> Taken {
     let mut kind = [0u8; 1];
     if !fill(&mut kind) {
@@ -74,14 +88,7 @@ pub fn take_event() -> Taken {
         NEXT..=DROP => take_laptop_call(kind),
         TIMER => Taken::Whole(Event::Timer),
         PROTOCOL_ERROR..=EXIT => take_laptop_call(kind),
-        REQUEST_REACHES => Taken::Whole(Event::RequestReaches),
-        REQUEST_LOST => Taken::Whole(Event::RequestLost),
-        GIVE => Taken::Whole(Event::Give),
-        BUSY => Taken::Whole(Event::Busy),
-        ANSWER_ARRIVES => Taken::Whole(Event::AnswerArrives),
-        ANSWER_LOST => Taken::Whole(Event::AnswerLost),
-        SENT => Taken::Whole(Event::Sent),
-        FAILED => Taken::Whole(Event::Failed),
+        REQUEST_REACHES..=FAILED => Taken::Whole(event_of(kind)),
         NEW_STREAM => Taken::NewStream,
         _ => Taken::Unknown,
     }

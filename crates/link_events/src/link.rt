@@ -1,4 +1,5 @@
 // The link: the request under way, and the answer to the last request that reached the dock.
+use crate::event::Event;
 
 // A request is one object, an answer at most seven.
 pub const REQUEST: usize = 4;
@@ -45,7 +46,7 @@ pub fn quiet() -> Link {
     }
 }
 
-pub fn is_under_way(link: Link) -> bool {
+fn is_under_way(link: Link) -> bool {
     let place = link.place;
     match place {
         Place::UnderWay => true,
@@ -61,7 +62,7 @@ fn is_confirmed(link: Link) -> bool {
     }
 }
 
-pub fn has_failed(link: Link) -> bool {
+fn has_failed(link: Link) -> bool {
     let heard = link.heard;
     match heard {
         Heard::Failed => true,
@@ -77,21 +78,21 @@ fn must_arrive(link: Link) -> bool {
     false
 }
 
-pub fn can_reach(link: Link) -> bool {
+fn can_reach(link: Link) -> bool {
     if must_arrive(link) {
         return false;
     }
     link.has_request
 }
 
-pub fn can_lose_answer(link: Link) -> bool {
+fn can_lose_answer(link: Link) -> bool {
     if must_arrive(link) {
         return false;
     }
     is_under_way(link)
 }
 
-pub fn can_fail(link: Link) -> bool {
+fn can_fail(link: Link) -> bool {
     let heard = link.heard;
     let Heard::Nothing = heard else {
         return false;
@@ -104,7 +105,7 @@ pub fn can_fail(link: Link) -> bool {
 }
 
 // A lost answer is not confirmed.
-pub fn can_be_sent(link: Link) -> bool {
+fn can_be_sent(link: Link) -> bool {
     let place = link.place;
     match place {
         Place::Lost => false,
@@ -113,7 +114,7 @@ pub fn can_be_sent(link: Link) -> bool {
 }
 
 // A page before the last that the laptop has counted, and that is not confirmed.
-pub fn is_unconfirmed_page(link: Link) -> bool {
+fn is_unconfirmed_page(link: Link) -> bool {
     if is_confirmed(link) {
         return false;
     }
@@ -121,6 +122,42 @@ pub fn is_unconfirmed_page(link: Link) -> bool {
         return link.is_page_before_last;
     }
     false
+}
+
+// The same of which the dock has heard that it failed, and of which it has heard nothing.
+pub fn is_failed_page(link: Link) -> bool {
+    if has_failed(link) {
+        return is_unconfirmed_page(link);
+    }
+    false
+}
+
+fn is_unheard_page(link: Link) -> bool {
+    if has_failed(link) {
+        return false;
+    }
+    is_unconfirmed_page(link)
+}
+
+// A counted page of which nothing was heard before the next request counts as failed.
+pub fn loses_confirmation(link: Link, event: Event) -> bool {
+    match event {
+        Event::RequestReaches => is_unheard_page(link),
+        Event::Failed => is_unconfirmed_page(link),
+        _ => false,
+    }
+}
+
+pub fn permits(link: Link, event: Event) -> bool {
+    match event {
+        Event::RequestReaches => can_reach(link),
+        Event::RequestLost => link.has_request,
+        Event::AnswerArrives => is_under_way(link),
+        Event::AnswerLost => can_lose_answer(link),
+        Event::Sent => can_be_sent(link),
+        Event::Failed => can_fail(link),
+        _ => true,
+    }
 }
 
 pub fn with_request(link: Link, request: [u8; REQUEST]) -> Link {
@@ -151,13 +188,6 @@ pub fn with_answer(link: Link, bytes: [u8; ANSWER], length: u8, is_page_before_l
     }
 }
 
-pub fn answer_lost(link: Link) -> Link {
-    Link {
-        place: Place::Lost,
-        ..link
-    }
-}
-
 pub fn answer_arrived(link: Link, is_counted: bool) -> Link {
     Link {
         place: Place::Arrived,
@@ -166,6 +196,23 @@ pub fn answer_arrived(link: Link, is_counted: bool) -> Link {
     }
 }
 
-pub fn answer_heard(link: Link, heard: Heard) -> Link {
-    Link { heard, ..link }
+// The link after an event at the dock or on the way there. Of an answer before the last request nothing can arrive or be heard.
+pub fn link_after(link: Link, event: Event) -> Link {
+    match event {
+        Event::RequestReaches => quiet(),
+        Event::RequestLost => without_request(link),
+        Event::AnswerLost => Link {
+            place: Place::Lost,
+            ..link
+        },
+        Event::Sent => Link {
+            heard: Heard::Sent,
+            ..link
+        },
+        Event::Failed => Link {
+            heard: Heard::Failed,
+            ..link
+        },
+        _ => link,
+    }
 }

@@ -13,10 +13,8 @@ mod system;
 use begin::begin;
 use event::Taken;
 use event::take_event;
-use laptop::RUN_WORDS;
 use libc::STDOUT_FILENO;
 use report::print_event;
-use start::Start;
 use start::read_start;
 use state::State;
 use system::take;
@@ -34,22 +32,7 @@ struct Finish {
 }
 
 // Answers the events of a stream, after so many events of the streams before it.
-fn answer_events(
-    stream: u64,
-    before: u64,
-    begun: State,
-    counts: &[u8; 72],
-    words: &[u32; RUN_WORDS],
-    svids: &mut [u16; 72],
-    modes: &mut [u8; 72],
-    identity: &mut [u32; 6],
-    run: &mut [u32; RUN_WORDS],
-    held_svids: &mut [u16; 72],
-    held_modes: &mut [u8; 72],
-    held_identity: &mut [u32; 6],
-    held_run: &mut [u32; RUN_WORDS],
-    entered: &mut [u8; 72],
-) -> Finish {
+fn answer_events(stream: u64, before: u64, begun: State) -> Finish {
     let mut state = begun;
     let mut count = before;
     let mut number: u64 = 0;
@@ -58,33 +41,10 @@ fn answer_events(
         let Taken::Whole(event) = taken else {
             return Finish { taken, count };
         };
-        let outcome = take(
-            state,
-            event,
-            counts,
-            words,
-            svids,
-            modes,
-            identity,
-            run,
-            held_svids,
-            held_modes,
-            held_identity,
-            held_run,
-            entered,
-        );
-        state = outcome.state;
+        state = take(state, event);
         count += 1;
         number += 1;
-        print_event(
-            stream,
-            number,
-            outcome,
-            held_svids,
-            held_modes,
-            held_identity,
-            held_run,
-        );
+        print_event(stream, number, state);
     }
     Finish {
         taken: Taken::Nothing,
@@ -92,59 +52,11 @@ fn answer_events(
     }
 }
 
-fn answer_from(
-    stream: u64,
-    before: u64,
-    start: Start,
-    counts: &[u8; 72],
-    words: &[u32; RUN_WORDS],
-) -> Finish {
-    let mut svids = [0u16; 72];
-    let mut modes = [0u8; 72];
-    let mut identity = [0u32; 6];
-    let mut run = [0u32; RUN_WORDS];
-    let mut held_svids = [0u16; 72];
-    let mut held_modes = [0u8; 72];
-    let mut held_identity = [0u32; 6];
-    let mut held_run = [0u32; RUN_WORDS];
-    let mut entered = [0u8; 72];
-    let state = begin(
-        start,
-        &mut svids,
-        &mut modes,
-        &mut identity,
-        &mut run,
-        &mut held_svids,
-        &mut held_modes,
-        &mut held_identity,
-        &mut held_run,
-        &mut entered,
-    );
-    answer_events(
-        stream,
-        before,
-        state,
-        counts,
-        words,
-        &mut svids,
-        &mut modes,
-        &mut identity,
-        &mut run,
-        &mut held_svids,
-        &mut held_modes,
-        &mut held_identity,
-        &mut held_run,
-        &mut entered,
-    )
-}
-
 // Answers a stream from its beginning, after so many events of the streams before it.
 fn answer_stream(stream: u64, before: u64) -> Finish {
-    let mut counts = [0u8; 72];
-    let mut words = [0u32; RUN_WORDS];
-    let start = read_start(&mut counts, &mut words);
+    let start = read_start();
     if start.is_good {
-        return answer_from(stream, before, start, &counts, &words);
+        return answer_events(stream, before, begin(start));
     }
     Finish {
         taken: Taken::BadDockData,

@@ -1,35 +1,34 @@
 // The line that an event gets: the number of its stream, its own in that stream, whether it is permitted, what its call led to, and how both ends stand then.
-use crate::state::Outcome;
+use crate::state::FarEnd;
 use crate::state::Refusal;
+use crate::state::State;
 use driving::digest::of_bytes;
-use driving::fields::append_candidate;
-use driving::fields::append_digest;
-use driving::fields::append_held;
-use driving::fields::append_nothing;
-use driving::fields::append_place;
+use driving::fields::place;
+use driving::fields::with_candidate;
+use driving::fields::with_digest;
+use driving::fields::with_held;
+use driving::fields::with_nothing;
+use driving::fields::with_number;
+use driving::line::Line;
+use driving::line::print;
+use driving::line::with_text;
+use driving::owning::Owner;
+use driving::owning::write_held;
 use laptop::Laptop;
-use laptop::RUN_WORDS;
-use text::line::append;
-use text::line::append_decimal;
-use text::line::append_field;
-use text::line::print_line;
-
-// Longer than the longest line, whose number of lost confirmations has twenty digits.
-const LONGEST: usize = 100;
 
 const LONGEST_CATALOGUE: usize = 2402;
 
-fn append_permitted(line: &mut [u8], at: usize, is_permitted: bool) -> usize {
+fn with_permitted(line: Line, is_permitted: bool) -> Line {
     if is_permitted {
-        return append(line, at, b" permitted");
+        return with_text(line, b" permitted");
     }
-    append_nothing(line, at)
+    with_nothing(line)
 }
 
-fn append_refusal(line: &mut [u8], at: usize, refusal: Refusal) -> usize {
+fn with_refusal(line: Line, refusal: Refusal) -> Line {
     match refusal {
-        Refusal::Nothing => append_nothing(line, at),
-        Refusal::Number(number) => append_field(line, at, number),
+        Refusal::Nothing => with_nothing(line),
+        Refusal::Number(number) => with_number(line, number as u64),
     }
 }
 
@@ -41,67 +40,31 @@ fn digest_of_first(bytes: &[u8], length: usize) -> u32 {
 }
 
 // The digest of the held catalogue's bytes.
-fn append_catalogue(
-    line: &mut [u8],
-    at: usize,
-    laptop: Laptop,
-    held_svids: &[u16; 72],
-    held_modes: &[u8; 72],
-    held_identity: &[u32; 6],
-    held_run: &[u32],
-) -> usize {
+fn with_catalogue(line: Line, owner: Owner) -> Line {
     let mut buffer = [0u8; LONGEST_CATALOGUE];
-    let bytes = catalogue::write_catalogue(
-        laptop,
-        held_svids,
-        held_modes,
-        held_identity,
-        held_run,
-        &mut buffer,
-    );
+    let bytes = write_held(owner, &mut buffer);
     if bytes.refusal != 0 {
-        return append_nothing(line, at);
+        return with_nothing(line);
     }
-    append_digest(line, at, digest_of_first(&buffer, bytes.length as usize))
+    with_digest(line, digest_of_first(&buffer, bytes.length as usize))
 }
 
-fn append_laptop(line: &mut [u8], at: usize, laptop: Laptop) -> usize {
+fn with_laptop(line: Line, laptop: Laptop) -> Line {
     let held = laptop.held;
-    let at = append_field(line, at, laptop.pages);
-    let at = append_candidate(line, at, laptop);
-    append_held(line, at, held)
+    let line = with_number(line, laptop.pages as u64);
+    with_held(with_candidate(line, laptop), held)
 }
 
-pub fn print_event(
-    stream: u64,
-    number: u64,
-    outcome: Outcome,
-    held_svids: &[u16; 72],
-    held_modes: &[u8; 72],
-    held_identity: &[u32; 6],
-    held_run: &[u32; RUN_WORDS],
-) {
-    let state = outcome.state;
-    let laptop = state.laptop;
-    let dock = state.dock;
-    let refusal = outcome.refusal;
-    let mut line = [0u8; LONGEST];
-    let at = append_place(&mut line, stream, number);
-    let at = append_permitted(&mut line, at, outcome.is_permitted);
-    let at = append_refusal(&mut line, at, refusal);
-    let at = append_laptop(&mut line, at, laptop);
-    let at = append_catalogue(
-        &mut line,
-        at,
-        laptop,
-        held_svids,
-        held_modes,
-        held_identity,
-        held_run,
-    );
-    let at = append_field(&mut line, at, dock.page);
-    let at = append(&mut line, at, b" ");
-    let at = append_decimal(&mut line, at, state.lost);
-    let at = append(&mut line, at, b"\n");
-    print_line(&line, at);
+fn with_far_end(line: Line, far_end: FarEnd) -> Line {
+    let line = with_number(line, far_end.dock.page as u64);
+    with_number(line, far_end.lost)
+}
+
+pub fn print_event(stream: u64, number: u64, state: State) {
+    let far_end = state.far_end;
+    let owner = state.owner;
+    let refusal = far_end.refusal;
+    let line = with_permitted(place(stream, number), far_end.is_permitted);
+    let line = with_laptop(with_refusal(line, refusal), owner.laptop);
+    print(with_far_end(with_catalogue(line, owner), far_end));
 }

@@ -1,5 +1,7 @@
 // What a stream begins with: the dock's data, its first page, and whether the laptop holds an old catalogue.
+use crate::state::Modes;
 use dock::Dock;
+use dock::Step;
 use laptop::MODES_EACH;
 use laptop::RUN_WORDS;
 use messages::first_objects;
@@ -9,10 +11,14 @@ use text::input::fill_halves;
 use text::input::fill_words;
 use text::input::length_of;
 
+// Not a refusal of the dock's.
+const UNREAD: u8 = 255;
+
 // The dock is loaded. Where the data is good, `page` is how many pages it has sent before.
 pub struct Start {
     pub is_good: bool,
     pub dock: Dock,
+    pub modes: Modes,
     pub page: u8,
     pub holds_old: bool,
 }
@@ -93,50 +99,46 @@ fn read_modes(count: usize, counts: &mut [u8; 72], words: &mut [u32; RUN_WORDS])
     true
 }
 
-fn bad() -> Start {
-    Start {
-        is_good: false,
+// Data that is cut or past its limit counts as refused.
+fn unread() -> Step {
+    Step {
+        refusal: UNREAD,
+        length: 0,
         dock: dock::fresh(),
-        page: 0,
-        holds_old: false,
     }
 }
 
-// The dock's page, and 0 or 1 for what the laptop holds.
-fn read_rest(dock: Dock) -> Start {
-    let mut bytes = [0u8; 2];
-    if !fill(&mut bytes) {
-        return bad();
-    }
-    Start {
-        is_good: bytes[1] <= 1,
-        dock,
-        page: bytes[0],
-        holds_old: bytes[1] == 1,
-    }
-}
-
-// The modes go into the words, their numbers into the counts. The dock refuses data that breaks its limits.
-pub fn read_start(counts: &mut [u8; 72], words: &mut [u32; RUN_WORDS]) -> Start {
+// The identity and the SVIDs. The dock refuses data that breaks its limits.
+fn read_dock() -> Step {
     let mut identity = [0u32; 6];
     let Number::Good(objects) = read_words(&mut identity) else {
-        return bad();
+        return unread();
     };
     let mut svids = [0u16; 72];
     let Number::Good(count) = read_halves(&mut svids) else {
-        return bad();
+        return unread();
     };
-    if !read_modes(length_of(count), counts, words) {
-        return bad();
-    }
-    let step = loading::load(
+    loading::load(
         dock::fresh(),
         first_objects(&identity, length_of(objects)),
         first_svids(&svids, length_of(count)),
-    );
-    if step.refusal != 0 {
-        return bad();
-    }
+    )
+}
+
+// Behind the dock's data stand its modes, its page, and 0 or 1 for what the laptop holds.
+pub fn read_start() -> Start {
+    let step = read_dock();
     let dock = step.dock;
-    read_rest(dock)
+    let mut counts = [0u8; 72];
+    let mut words = [0u32; RUN_WORDS];
+    let mut last = [0u8; 2];
+    let has_modes = read_modes(length_of(dock.count), &mut counts, &mut words);
+    let is_whole = fill(&mut last);
+    Start {
+        is_good: step.refusal == 0 && has_modes && is_whole && last[1] <= 1,
+        dock,
+        modes: Modes { counts, words },
+        page: last[0],
+        holds_old: last[1] == 1,
+    }
 }

@@ -1,56 +1,47 @@
-// What stays from event to event, and what an event leads to.
+// What stays from event to event, and what the last event led to.
 use crate::link::Link;
 use dock::Dock;
-use laptop::Laptop;
+use driving::owning::Owner;
+use laptop::RUN_WORDS;
 
-// `lost` counts the confirmations lost in this gathering.
-pub struct State {
-    pub laptop: Laptop,
-    pub dock: Dock,
-    pub link: Link,
-    pub lost: u64,
+// The modes of the dock's SVIDs: how many each has, and six words for each.
+pub struct Modes {
+    pub counts: [u8; 72],
+    pub words: [u32; RUN_WORDS],
 }
 
-// The refusal number of the call that an event makes.
+// The refusal number of the call that an event made.
 pub enum Refusal {
     Nothing,
     Number(u8),
 }
 
-pub struct Outcome {
+// The dock and the link to it. `lost` counts the confirmations lost in this gathering. The last two fields are of the last event.
+pub struct FarEnd {
+    pub dock: Dock,
+    pub modes: Modes,
+    pub link: Link,
+    pub lost: u64,
     pub is_permitted: bool,
     pub refusal: Refusal,
-    pub state: State,
 }
 
-pub fn not_permitted(state: State) -> Outcome {
-    Outcome {
+pub struct State {
+    pub owner: Owner,
+    pub far_end: FarEnd,
+}
+
+pub fn not_permitted(far_end: FarEnd) -> FarEnd {
+    FarEnd {
         is_permitted: false,
-        refusal: Refusal::Nothing,
-        state,
+        ..far_end
     }
 }
 
-// Something happened on the link, and no call was made.
-pub fn happened(state: State) -> Outcome {
-    Outcome {
-        is_permitted: true,
-        refusal: Refusal::Nothing,
-        state,
+// The confirmations lost, with one more or not.
+pub fn counted(lost: u64, is_lost: bool) -> u64 {
+    if is_lost {
+        return std::num::wrapping_add_u64(lost, 1);
     }
-}
-
-pub fn called(number: u8, state: State) -> Outcome {
-    Outcome {
-        is_permitted: true,
-        refusal: Refusal::Number(number),
-        state,
-    }
-}
-
-pub fn confirmation_lost(state: State) -> State {
-    State {
-        lost: std::num::wrapping_add_u64(state.lost, 1),
-        ..state
-    }
+    lost
 }

@@ -1,56 +1,38 @@
-// A laptop, the link and a dock, driven by events. An event that the link does not permit changes nothing.
+// A laptop, the link and a dock, driven by events. An event that is not permitted changes nothing.
 use crate::at_dock::take_at_dock;
-use crate::at_laptop::Asked;
 use crate::at_laptop::arrive;
-use crate::at_laptop::asked_by;
 use crate::at_laptop::make;
+use crate::at_laptop::run_out;
 use crate::event::Event;
-use crate::state::Outcome;
+use crate::link::permits;
+use crate::state::FarEnd;
+use crate::state::Refusal;
 use crate::state::State;
-use laptop::RUN_WORDS;
+use driving::owning::Owner;
 
-// `counts` and `words` are the modes of the dock's SVIDs.
-pub fn take(
-    state: State,
-    event: Event,
-    counts: &[u8; 72],
-    words: &[u32; RUN_WORDS],
-    svids: &mut [u16; 72],
-    modes: &mut [u8; 72],
-    identity: &mut [u32; 6],
-    run: &mut [u32; RUN_WORDS],
-    held_svids: &mut [u16; 72],
-    held_modes: &mut [u8; 72],
-    held_identity: &mut [u32; 6],
-    held_run: &mut [u32; RUN_WORDS],
-    entered: &mut [u8; 72],
-) -> Outcome {
-    let laptop = state.laptop;
-    if let Asked::Call(call) = asked_by(laptop, event) {
-        return make(
-            state,
-            call,
-            svids,
-            run,
-            held_svids,
-            held_modes,
-            held_run,
-            entered,
-        );
+// The event was permitted by the link.
+fn take_permitted(owner: Owner, far_end: FarEnd, event: Event) -> State {
+    match event {
+        Event::Call(call) => make(owner, far_end, call),
+        Event::Timer => run_out(owner, far_end),
+        Event::AnswerArrives => arrive(owner, far_end),
+        _ => State {
+            owner,
+            far_end: take_at_dock(far_end, event),
+        },
     }
-    let Event::AnswerArrives = event else {
-        return take_at_dock(state, event, counts, words);
+}
+
+pub fn take(state: State, event: Event) -> State {
+    let owner = state.owner;
+    let before = state.far_end;
+    let far_end = FarEnd {
+        is_permitted: permits(before.link, event),
+        refusal: Refusal::Nothing,
+        ..before
     };
-    arrive(
-        state,
-        svids,
-        modes,
-        identity,
-        run,
-        held_svids,
-        held_modes,
-        held_identity,
-        held_run,
-        entered,
-    )
+    if far_end.is_permitted {
+        return take_permitted(owner, far_end, event);
+    }
+    State { owner, far_end }
 }

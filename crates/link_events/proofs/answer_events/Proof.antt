@@ -1,17 +1,16 @@
 -- `link_events::answer_events` is safe and ends. The stream has no more events than all streams together, and the measure is how many events may
 -- still come.
 -- Assumes nothing.
-use native.Mathlib.Omega.{arith}
 use Prim.Native.Nat.{_-_, _≤_}
 use borrow.Author.Needs.{needs}
 use Rattle.link_events.proofs.answer_events.Statement.{statement}
 use Rattle.link_events.proofs.answer_events.Tie as tie
 
 abbrev Inv-loop : tie.InvT-loop
-Inv-loop stream before counts words svids₀ modes₀ identity₀ run₀ held-svids₀ held-modes₀ held-identity₀ held-run₀ entered₀ state₀ count₀ number₀ svids modes identity run held-svids held-modes held-identity held-run entered state count number = number ≤ count
+Inv-loop stream before state₀ count₀ number₀ state count number = number ≤ count
 
 abbrev μ-loop : tie.MeasureT-loop
-μ-loop stream before counts words svids₀ modes₀ identity₀ run₀ held-svids₀ held-modes₀ held-identity₀ held-run₀ entered₀ state₀ count₀ number₀ svids modes identity run held-svids held-modes held-identity held-run entered state count number = 1000000 - count
+μ-loop stream before state₀ count₀ number₀ state count number = 1000000 - count
 
 loop-holds : tie.Need-loop-holds Inv-loop μ-loop
 loop-holds c = search needs
@@ -32,16 +31,16 @@ add-count : tie.Need-add-count Inv-loop μ-loop
 add-count c = search needs
 
 add-number : tie.Need-add-number Inv-loop μ-loop
-add-number c = omega (arith, c .before .before .before .before .before .before .before .before .before .before .before .before .before .before .before)
+add-number c = search needs
 
 print-event-requires : tie.Need-print-event-requires Inv-loop μ-loop
 print-event-requires c κs = search needs
 
 loop-less : tie.Need-loop-less Inv-loop μ-loop
-loop-less c = omega (arith, c .before .before .before .before .before .before .before .before .before .before .before .before .before .before .before .before .before .before .before .before .loop-test .taken)
+loop-less c = search needs
 
 loop-again : tie.Need-loop-again Inv-loop μ-loop
-loop-again c = omega (arith, c .before .before .before .before .before .before .before .before .before .before .before .before .before .before .before .before .before .before)
+loop-again c = search needs
 
 returns-2 : tie.Need-returns-2 Inv-loop μ-loop
 returns-2 c = search needs

@@ -6,10 +6,10 @@ use Rattle.link_events.proofs.begin.gather_old.Statement.{statement}
 use Rattle.link_events.proofs.begin.gather_old.Tie as tie
 
 abbrev Inv-loop : tie.InvT-loop
-Inv-loop svids₀ modes₀ identity₀ run₀ held-svids₀ held-modes₀ held-identity₀ held-run₀ entered₀ counts words state₀ number₀ svids modes identity run held-svids held-modes held-identity held-run entered state number = Unit {0}
+Inv-loop state₀ number₀ state number = Unit {0}
 
 abbrev μ-loop : tie.MeasureT-loop
-μ-loop svids₀ modes₀ identity₀ run₀ held-svids₀ held-modes₀ held-identity₀ held-run₀ entered₀ counts words state₀ number₀ svids modes identity run held-svids held-modes held-identity held-run entered state number = 15 - number
+μ-loop state₀ number₀ state number = 15 - number
 
 fresh-requires : tie.Need-fresh-requires Inv-loop μ-loop
 fresh-requires c κs = search needs
@@ -17,8 +17,8 @@ fresh-requires c κs = search needs
 old-dock-requires : tie.Need-old-dock-requires Inv-loop μ-loop
 old-dock-requires c κs = search needs
 
-system-of-requires : tie.Need-system-of-requires Inv-loop μ-loop
-system-of-requires c κs = search needs
+end-of-requires : tie.Need-end-of-requires Inv-loop μ-loop
+end-of-requires c κs = search needs
 
 loop-holds : tie.Need-loop-holds Inv-loop μ-loop
 loop-holds c = search needs
@@ -49,7 +49,7 @@ gather-old-spec =
     μ-loop
     fresh-requires
     old-dock-requires
-    system-of-requires
+    end-of-requires
     loop-holds
     event-of-requires
     take-requires

@@ -6,10 +6,10 @@ use Rattle.link_events.proofs.begin.turned.Statement.{statement}
 use Rattle.link_events.proofs.begin.turned.Tie as tie
 
 abbrev Inv-loop : tie.InvT-loop
-Inv-loop pages dock₀ page₀ dock page = Unit {0}
+Inv-loop pages far-end₀ page₀ far-end page = Unit {0}
 
 abbrev μ-loop : tie.MeasureT-loop
-μ-loop pages dock₀ page₀ dock page = pages - page
+μ-loop pages far-end₀ page₀ far-end page = pages - page
 
 exchange-requires : tie.Need-exchange-requires Inv-loop μ-loop
 exchange-requires c κs = search needs

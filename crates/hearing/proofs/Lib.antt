@@ -1,5 +1,4 @@
 -- Laws on what becomes of a message, a file for each topic.
-pub mod Copying
 pub mod Outcomes
-pub mod Storing
+pub mod Parts
 pub mod Unawaited

@@ -11,7 +11,8 @@ use Rattle.messages.specs.Requests.{identityCommand, svidsCommand, modesCommand
 use Rattle.messages.specs.declared.Head.{Head}
 use Rattle.pages.specs.Pages.{halves}
 use Rattle.gathering.specs.Gathering.{hearIdentity, hearSvids, Opening, Gathering}
-use Rattle.hearing.specs.Answers.{hearModes, hearMode, isWhole, copied, Filling, Marking}
+use Rattle.hearing.specs.Answers.{hearModes, hearMode, Filling, Marking}
+use Rattle.publishing.specs.Publishing.{isWhole, copied, withLaptop}
 use Rattle.laptop.specs.Calls.{refusedBy, turnedTo, shortRuns}
 use Rattle.laptop.specs.State.{Memory, memory, dropped, published}
 use Rattle.laptop.specs.declared.Candidate.{Candidate}
@@ -89,10 +90,7 @@ withMarking m k =
       after = memory (m .svids) (m .modes) (m .identity) (m .run) (m .heldSvids) (m .heldModes) (m .heldIdentity) (m .heldRun) (k .entered);
     }
 
--- publishing replaces the held catalogue at once and leaves no candidate
-abbrev pub withLaptop : Laptop → Step → Step
-withLaptop l s = record { refusal = s .refusal; length = s .length; told = s .told; laptop = l }
-
+-- an answer that completes the candidate publishes it
 unfoldable pub settledStep : Step → Step
 settledStep s = cond (isWhole (s .laptop)) (withLaptop (published (s .laptop)) s) s
 

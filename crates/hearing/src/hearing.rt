@@ -4,12 +4,7 @@ ghost use Rattle.messages.specs.Reading.{readOutcome};
 ghost use Rattle.hearing.specs.Hearing.{noticeOf, hearRequest, isLatePage, hearUnawaited, heard};
 ghost use Rattle.hearing.specs.Hearing.{fits as Hearing·fits};
 ghost use Rattle.laptop.specs.State.{memory};
-use crate::answers::hear_mode;
-use crate::answers::hear_modes;
-use crate::publishing::is_whole;
-use crate::publishing::publish;
-use gathering::hear_identity;
-use gathering::hear_svids;
+use crate::awaited::hear_answer;
 use laptop::Candidate;
 use laptop::Laptop;
 use laptop::Notice;
@@ -24,11 +19,8 @@ use messages::ACK;
 use messages::ATTENTION;
 use messages::Answer;
 use messages::Head;
-use messages::IDENTITY;
-use messages::MODES;
 use messages::REQ;
 use messages::SVIDS;
-use messages::first_objects;
 use messages::request_of;
 use messages::same_request;
 
@@ -121,45 +113,19 @@ pub fn message(
     if !fits(wait, head) {
         return hear_unawaited(laptop, head);
     }
-    if head.command == IDENTITY {
-        return hear_identity(laptop, head.kind, count, &reading.objects, svids, identity);
-    }
-    if head.command == SVIDS {
-        let step = hear_svids(laptop, head.kind, count, &reading.objects, svids);
-        let after = step.laptop;
-        if !is_whole(after) {
-            return step;
-        }
-        return publish(
-            step,
-            svids,
-            modes,
-            identity,
-            run,
-            held_svids,
-            held_modes,
-            held_identity,
-            held_run,
-        );
-    }
-    if head.command == MODES {
-        let words = first_objects(&reading.objects, count as usize);
-        let step = hear_modes(laptop, head.kind, words, modes, run);
-        let after = step.laptop;
-        if !is_whole(after) {
-            return step;
-        }
-        return publish(
-            step,
-            svids,
-            modes,
-            identity,
-            run,
-            held_svids,
-            held_modes,
-            held_identity,
-            held_run,
-        );
-    }
-    hear_mode(laptop, head.kind, request_of(head), held_svids, entered)
+    hear_answer(
+        laptop,
+        head,
+        count,
+        &reading.objects,
+        svids,
+        modes,
+        identity,
+        run,
+        held_svids,
+        held_modes,
+        held_identity,
+        held_run,
+        entered,
+    )
 }

@@ -1,0 +1,2 @@
+-- Laws on the answers about modes.
+pub mod Storing

@@ -1,0 +1,105 @@
+// An answer that is awaited.
+ghost use mathlib.Core.Path.{_≡_};
+ghost use mathlib.Core.List.{List};
+ghost use Prim.Native.Nat.{ℕ, _≤_};
+ghost use lib.ListN.{take};
+ghost use Rattle.laws.specs.Padded.{padded};
+ghost use Rattle.hearing.specs.Hearing.{only, hearAnswer};
+ghost use Rattle.hearing.specs.Parts.{bringsPart, hearPart};
+ghost use Rattle.laptop.specs.State.{memory};
+use answers::hear_mode;
+use answers::hear_modes;
+use gathering::hear_identity;
+use gathering::hear_svids;
+use laptop::Laptop;
+use laptop::Step;
+use messages::Head;
+use messages::IDENTITY;
+use messages::MODES;
+use messages::SVIDS;
+use messages::request_of;
+use publishing::is_whole;
+use publishing::publish;
+
+// Identity, SVIDs and Modes bring a part of the candidate.
+fn brings_part(command: u8) -> bool
+    ensures { λ r. ⌜ r ≡ bringsPart command ⌝ }
+{
+    if command < IDENTITY {
+        return false;
+    }
+    command <= MODES
+}
+
+// The part is gathered, whatever is held.
+fn gather(
+    laptop: Laptop,
+    command: u8,
+    kind: u8,
+    count: u8,
+    objects: &[u32; 6],
+    svids: &mut [u16; 72],
+    modes: &mut [u8; 72],
+    identity: &mut [u32; 6],
+    run: &mut [u32],
+) -> Step
+    ensures { λ r. ⌜ ((heldSvids heldModes heldIdentity heldRun entered : List ℕ) → only (memory (now (svids .exit)) (now (modes .exit)) (now (identity .exit)) (now (run .exit)) heldSvids heldModes heldIdentity heldRun entered) r ≡ hearPart laptop (memory (now (svids .entry)) (now (modes .entry)) (now (identity .entry)) (now (run .entry)) heldSvids heldModes heldIdentity heldRun entered) command kind count (now (objects .entry))) ⌝ }
+{
+    if command == IDENTITY {
+        return hear_identity(laptop, kind, count, objects, svids, identity);
+    }
+    if command == SVIDS {
+        return hear_svids(laptop, kind, count, objects, svids);
+    }
+    hear_modes(laptop, kind, count, objects, modes, run)
+}
+
+// A candidate that its last part makes whole is published.
+pub(crate) fn hear_answer(
+    laptop: Laptop,
+    head: Head,
+    count: u8,
+    objects: &[u32; 6],
+    svids: &mut [u16; 72],
+    modes: &mut [u8; 72],
+    identity: &mut [u32; 6],
+    run: &mut [u32],
+    held_svids: &mut [u16; 72],
+    held_modes: &mut [u8; 72],
+    held_identity: &mut [u32; 6],
+    held_run: &mut [u32],
+    entered: &mut [u8; 72],
+) -> Step
+    requires { ⌜ (count ≤ 6) × (padded (take count (now objects)) ≡ now objects) ⌝ }
+    ensures { λ r. ⌜ only (memory (now (svids .exit)) (now (modes .exit)) (now (identity .exit)) (now (run .exit)) (now («held_svids» .exit)) (now («held_modes» .exit)) (now («held_identity» .exit)) (now («held_run» .exit)) (now (entered .exit))) r ≡ hearAnswer laptop (memory (now (svids .entry)) (now (modes .entry)) (now (identity .entry)) (now (run .entry)) (now («held_svids» .entry)) (now («held_modes» .entry)) (now («held_identity» .entry)) (now («held_run» .entry)) (now (entered .entry))) (record { head = head; objects = take count (now (objects .entry)) }) ⌝ }
+{
+    if !brings_part(head.command) {
+        return hear_mode(laptop, head.kind, request_of(head), held_svids, entered);
+    }
+    let step = gather(
+        laptop,
+        head.command,
+        head.kind,
+        count,
+        objects,
+        svids,
+        modes,
+        identity,
+        run,
+    );
+    let after = step.laptop;
+    if !is_whole(after) {
+        return step;
+    }
+    publish(
+        step,
+        svids,
+        modes,
+        identity,
+        run,
+        held_svids,
+        held_modes,
+        held_identity,
+        held_run,
+    )
+}

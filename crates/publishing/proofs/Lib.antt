@@ -1,0 +1,2 @@
+-- Laws on publishing.
+pub mod Copying

@@ -1,0 +1,2 @@
+-- Document 01, "The laptop end": when a candidate is published, and how.
+pub mod Publishing

@@ -41,17 +41,27 @@ pub fn append(line: &mut [u8], at: usize, text: &[u8]) -> usize {
     end
 }
 
+// A number below 2 ^ 64 has at most so many decimal digits.
+const MOST_DIGITS: usize = 20;
+
 fn digit_of(number: u64) -> u8 {
     b'0' + (number % 10) as u8
 }
 
 // The library's `io::decimal` divides by a base that it is given; a division by a constant is a multiplication.
 pub fn append_decimal(line: &mut [u8], at: usize, number: u64) -> usize {
-    let mut end = at;
-    if 10 <= number {
-        end = append_decimal(line, at, number / 10);
+    let mut digits = [b'0'; MOST_DIGITS];
+    let mut first = MOST_DIGITS;
+    let mut rest = number;
+    while 0 < first {
+        first -= 1;
+        digits[first] = digit_of(rest);
+        rest = rest / 10;
+        if rest == 0 {
+            return append(line, at, &digits[first..]);
+        }
     }
-    put(line, end, digit_of(number))
+    append(line, at, &digits)
 }
 
 // The number has a space before it.

@@ -125,6 +125,19 @@ fn read_dock() -> Step {
     )
 }
 
+fn is_good(refusal: u8, has_modes: bool, is_whole: bool, holds_old: u8) -> bool {
+    if refusal != 0 {
+        return false;
+    }
+    if !has_modes {
+        return false;
+    }
+    if !is_whole {
+        return false;
+    }
+    holds_old <= 1
+}
+
 // Behind the dock's data stand its modes, its page, and 0 or 1 for what the laptop holds.
 pub fn read_start() -> Start {
     let step = read_dock();
@@ -135,7 +148,7 @@ pub fn read_start() -> Start {
     let has_modes = read_modes(length_of(dock.count), &mut counts, &mut words);
     let is_whole = fill(&mut last);
     Start {
-        is_good: step.refusal == 0 && has_modes && is_whole && last[1] <= 1,
+        is_good: is_good(step.refusal, has_modes, is_whole, last[1]),
         dock,
         modes: Modes { counts, words },
         page: last[0],

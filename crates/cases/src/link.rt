@@ -7,7 +7,7 @@ use crate::written::Message;
 use crate::written::nothing;
 use dock::Dock;
 use dock::Policy;
-use driving::owner;
+use driving::owning;
 use driving::owning::Owner;
 use laptop::Candidate;
 
@@ -25,7 +25,7 @@ pub struct Ends {
 // A laptop without a catalogue, and a dock that has so many SVIDs.
 pub fn fresh(count: usize) -> Ends {
     Ends {
-        owner: owner::fresh(0),
+        owner: owning::fresh(0),
         dock: load(dock::fresh(), count),
         answer: nothing(),
         refusal: 0,

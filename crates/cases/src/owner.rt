@@ -2,7 +2,7 @@
 use crate::written::Message;
 use crate::written::first_bytes;
 use crate::written::nothing;
-use driving::owner;
+use driving::owning;
 use driving::owning::Owner;
 use events::Call;
 
@@ -15,7 +15,7 @@ pub struct Turn {
 
 pub fn next(owner: Owner) -> Turn {
     let mut bytes = nothing().bytes;
-    let turn = owner::make(owner, Call::Next, &mut bytes);
+    let turn = owning::make(owner, Call::Next, &mut bytes);
     let step = turn.step;
     let owner = turn.owner;
     Turn {
@@ -30,7 +30,7 @@ pub fn next(owner: Owner) -> Turn {
 
 pub fn hear(owner: Owner, message: Message) -> Turn {
     let bytes = message.bytes;
-    let turn = owner::hear(owner, first_bytes(&bytes, message.length));
+    let turn = owning::hear(owner, first_bytes(&bytes, message.length));
     let owner = turn.owner;
     Turn {
         refusal: turn.step.refusal,

@@ -41,6 +41,19 @@ module _ (l : Laptop) (kind n : ℕ) (objects svids identity : List ℕ) where
   unfolding hearIdentity
   identity-other e = rw (ne-eqb _ _ e) (refl, refl, refl)
 
+-- a page that does not end the list, by how many have come; what is decided, by its parts
+module _ (l : Laptop) (svids : List ℕ) (more : Gathering) where
+  pub unless-last : 200 ≤ l .pages → gathering (refusedBy 14 (dropped l)) svids ≡ unlessLast l svids more
+  unfolding unlessLast
+  unless-last h = rw (le-leb _ _ h)
+
+  pub unless-early : l .pages < 200 → more ≡ unlessLast l svids more
+  unfolding unlessLast
+  unless-early h = rw (lt-leb _ _ h)
+
+pub turned-parts : (step of : Step) (after list : List ℕ) → step ≡ of → after ≡ list → gathering step after ≡ gathering of list
+turned-parts step of after list es ea = ap₂ gathering es ea
+
 -- a page, by the verdict on it and the list that is gathered
 module _ (l : Laptop) (svids values list : List ℕ) (gathered : list ≡ gatheredList l svids) (v : Verdict) (judged : v ≡ verdict list values) where
   as-judged : (w : Verdict) → v ≡ w → takePage l svids values ≡ takeAs l svids values (length list) w
@@ -52,6 +65,16 @@ module _ (l : Laptop) (svids values list : List ℕ) (gathered : list ≡ gather
   pub take-bad : v ≡ Bad → takePage l svids values ≡ gathering (refusedBy 8 (dropped l)) svids
   unfolding takeAs
   take-bad e = as-judged Bad e
+
+  pub judged-repeat : v ≡ Repeat → takePage l svids values ≡ unlessLast l svids (gathering (turnedTo Nothing (ended l)) svids)
+  unfolding takeAs
+  judged-repeat e = as-judged Repeat e
+
+  pub judged-full : v ≡ More →
+      takePage l svids values ≡
+      unlessLast l svids (gathering (turnedTo Nothing (gatheredTo Open (length list + 12) l)) (sets svids (length list) values))
+  unfolding takeAs
+  judged-full e = as-judged More e
 
   pub take-repeat : v ≡ Repeat → l .pages < 200 → takePage l svids values ≡ gathering (turnedTo Nothing (ended l)) svids
   unfolding takeAs unlessLast

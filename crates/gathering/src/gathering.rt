@@ -1,13 +1,17 @@
 // Answers that gather the list: Identity and SVIDs.
 ghost use mathlib.Core.Path.{_≡_};
-ghost use Prim.Native.Nat.{_+_, _*_, _/_, _%_, _≤_};
+ghost use mathlib.Core.List.{List};
+ghost use Prim.Native.Nat.{ℕ, _+_, _*_, _/_, _%_, _≤_};
 ghost use lib.ListN.{length, take};
 ghost use lib.Seq.{sets};
-ghost use Rattle.gathering.specs.Gathering.{hearIdentity, sixHalves, hearSvids};
+ghost use Rattle.gathering.specs.Gathering.{hearIdentity, gathering, unlessLast, sixHalves, hearSvids};
 ghost use Rattle.gathering.specs.Gathering.{takePage as Gathering·takePage};
-ghost use Rattle.laptop.specs.State.{gatheredTo};
+ghost use Rattle.laptop.specs.Calls.{turnedTo};
+ghost use Rattle.laptop.specs.State.{ended, gatheredTo};
 ghost use Rattle.laptop.specs.State.{opened as State·opened};
 ghost use Rattle.laptop.specs.State.{counted as State·counted};
+ghost use Rattle.laptop.specs.declared.Candidate.the-variants.{Open, Done};
+ghost use Rattle.laptop.specs.declared.Told.the-variants.{Nothing};
 use crate::MOST_PAGES;
 use laptop::Candidate;
 use laptop::Laptop;
@@ -125,6 +129,43 @@ fn put_values(svids: &mut [u16; 72], n: usize, values: &[u16])
     }
 }
 
+// A repeat adds nothing; as the 200th page it is refused.
+fn take_repeat(laptop: Laptop) -> Step
+    ensures { λ r. ⌜ ((svids : List ℕ) → gathering r svids ≡ unlessLast laptop svids (gathering (turnedTo Nothing (ended laptop)) svids)) ⌝ }
+{
+    if MOST_PAGES <= laptop.pages {
+        return refused(14, dropped(laptop));
+    }
+    turned(Told::Nothing, ended(laptop))
+}
+
+// A full page leaves the list open; as the 200th page it is refused.
+fn take_full(laptop: Laptop, n: usize, values: &[u16], svids: &mut [u16; 72]) -> Step
+    requires { ⌜ (length (now values) ≡ 12) × (n + length (now values) ≤ 72) ⌝ }
+    ensures { λ r. ⌜ gathering r (now (svids .exit)) ≡ unlessLast laptop (now (svids .entry)) (gathering (turnedTo Nothing (gatheredTo Open (n + 12) laptop)) (sets (now (svids .entry)) n (now (values .entry)))) ⌝ }
+{
+    if MOST_PAGES <= laptop.pages {
+        return refused(14, dropped(laptop));
+    }
+    put_values(svids, n, values);
+    turned(
+        Told::Nothing,
+        gathered_to(Candidate::Open, (n + 12) as u8, laptop),
+    )
+}
+
+// The last page: its first k values end the list.
+fn take_end(laptop: Laptop, n: usize, k: u8, values: &[u16], svids: &mut [u16; 72]) -> Step
+    requires { ⌜ (k ≤ length (now values)) × (n + k ≤ 72) ⌝ }
+    ensures { λ r. ⌜ gathering r (now (svids .exit)) ≡ gathering (turnedTo Nothing (gatheredTo Done (n + k) laptop)) (sets (now (svids .entry)) n (take k (now (values .entry)))) ⌝ }
+{
+    put_values(svids, n, first_svids(values, k as usize));
+    turned(
+        Told::Nothing,
+        gathered_to(Candidate::Done, (n as u8) + k, laptop),
+    )
+}
+
 // A page is taken: what it adds is put behind what is gathered, once it is known not to be refused.
 fn take_page(laptop: Laptop, values: &[u16], svids: &mut [u16; 72]) -> Step
     ensures { λ r. ⌜ (r ≡ (Gathering·takePage laptop (now (svids .entry)) (now (values .entry))) .step) × (now (svids .exit) ≡ (Gathering·takePage laptop (now (svids .entry)) (now (values .entry))) .svids) ⌝ }
@@ -133,29 +174,9 @@ fn take_page(laptop: Laptop, values: &[u16], svids: &mut [u16; 72]) -> Step
     let n = list.len();
     match taking::judge(list, values) {
         Verdict::Bad => refused(8, dropped(laptop)),
-        Verdict::Repeat => {
-            if MOST_PAGES <= laptop.pages {
-                return refused(14, dropped(laptop));
-            }
-            turned(Told::Nothing, ended(laptop))
-        }
-        Verdict::More => {
-            if MOST_PAGES <= laptop.pages {
-                return refused(14, dropped(laptop));
-            }
-            put_values(svids, n, values);
-            turned(
-                Told::Nothing,
-                gathered_to(Candidate::Open, (n + 12) as u8, laptop),
-            )
-        }
-        Verdict::Ends(k) => {
-            put_values(svids, n, first_svids(values, k as usize));
-            turned(
-                Told::Nothing,
-                gathered_to(Candidate::Done, (n as u8) + k, laptop),
-            )
-        }
+        Verdict::Repeat => take_repeat(laptop),
+        Verdict::More => take_full(laptop, n, values, svids),
+        Verdict::Ends(k) => take_end(laptop, n, k, values, svids),
     }
 }
 

@@ -5,7 +5,7 @@ use crate::event::LONGEST_MESSAGE;
 use crate::event::Lengths;
 use crate::event::at_most;
 use driving::digest::of_bytes;
-use driving::owner;
+use driving::owning;
 use driving::owning::Owner;
 use driving::owning::hear;
 use driving::owning::write_held;
@@ -69,7 +69,7 @@ pub struct Outcome {
 
 pub fn begin() -> State {
     State {
-        owner: owner::fresh(UNWRITTEN_WORD),
+        owner: owning::fresh(UNWRITTEN_WORD),
         output: FIRST_OUTPUT,
     }
 }
@@ -135,7 +135,7 @@ fn object_in(output: &[u8]) -> [u8; OBJECT] {
 fn make(state: State, call: Call) -> Outcome {
     let mut buffer = [UNWRITTEN; GREATEST];
     let output = &mut buffer[0..length_of(state.output)];
-    let turn = owner::make(state.owner, call, output);
+    let turn = owning::make(state.owner, call, output);
     let owner = turn.owner;
     Outcome {
         answer: Answer {

@@ -11,7 +11,7 @@ use crate::state::Refusal;
 use crate::state::State;
 use crate::state::counted;
 use crate::state::not_permitted;
-use driving::owner;
+use driving::owning;
 use driving::owning::Owner;
 use driving::owning::hear;
 use events::Call;
@@ -72,7 +72,7 @@ fn asked(far_end: FarEnd, step: Step, request: [u8; REQUEST]) -> FarEnd {
 
 pub fn make(owner: Owner, far_end: FarEnd, call: Call) -> State {
     let mut request = [0u8; REQUEST];
-    let turn = owner::make(owner, call, &mut request);
+    let turn = owning::make(owner, call, &mut request);
     let owner = turn.owner;
     State {
         owner,

@@ -33,7 +33,7 @@ pub fn print_answers(case: u64, count: usize) {
         let replied = reply(dock, Policy::Give, request);
         number += 1;
         print_answer(case, number, replied);
-        dock = dock::sent(replied.dock).dock;
+        dock = confirming::sent(replied.dock).dock;
         if dock.page == page {
             return;
         }

@@ -54,12 +54,12 @@ pub fn exchange(ends: Ends, policy: Policy) -> Ends {
 }
 
 pub fn confirm(ends: Ends) -> Ends {
-    let dock = dock::sent(ends.dock).dock;
+    let dock = confirming::sent(ends.dock).dock;
     Ends { dock, ..ends }
 }
 
 pub fn fail(ends: Ends) -> Ends {
-    let dock = dock::failed(ends.dock).dock;
+    let dock = confirming::failed(ends.dock).dock;
     Ends { dock, ..ends }
 }
 

@@ -48,7 +48,7 @@ fn given(command: u8) -> usize {
 pub fn reply(dock: Dock, policy: Policy, message: Message) -> Replied {
     let bytes = message.bytes;
     let mut out = nothing().bytes;
-    let taken = dock::message(dock, first_bytes(&bytes, message.length), &mut out).dock;
+    let taken = receiving::message(dock, first_bytes(&bytes, message.length), &mut out).dock;
     let standing = taken.standing;
     let Standing::Asking(request) = standing else {
         return Replied {

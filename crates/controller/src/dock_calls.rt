@@ -54,7 +54,7 @@ pub extern "C" fn dock_message(
     length: &mut u8,
 ) -> u8 {
     let before = *state;
-    let step = dock::message(dock_from(before, identity, svids), bytes, out);
+    let step = receiving::message(dock_from(before, identity, svids), bytes, out);
     hand_over(step, state, length)
 }
 
@@ -93,7 +93,7 @@ pub extern "C" fn dock_sent(
 ) -> u8 {
     let before = *state;
     hand_over(
-        dock::sent(dock_from(before, identity, svids)),
+        confirming::sent(dock_from(before, identity, svids)),
         state,
         length,
     )
@@ -108,7 +108,7 @@ pub extern "C" fn dock_failed(
 ) -> u8 {
     let before = *state;
     hand_over(
-        dock::failed(dock_from(before, identity, svids)),
+        confirming::failed(dock_from(before, identity, svids)),
         state,
         length,
     )

@@ -1,14 +1,9 @@
-// The dock end (Responder): its state, the message that arrives, and what becomes of an answer. Document 01, "The dock end". `loading` has its data,
-// `answering` policy's answer.
-mod confirming;
-mod receiving;
+// The dock end (Responder): its state, and what every call is made of. Document 01, "The dock end". `loading` has its data, `receiving` the message that
+// arrives, `answering` policy's answer, `confirming` what becomes of it.
 mod replying;
 mod unloaded;
 
-pub use confirming::failed;
-pub use confirming::sent;
 use messages::Request;
-pub use receiving::message;
 pub use replying::accepted;
 pub use replying::refused;
 pub use replying::send;

@@ -80,7 +80,7 @@ fn take_bytes(length: u8, dock: Dock, output: &mut [u8]) -> Taken {
     if !fill(message) {
         return cut(dock);
     }
-    answered(dock::message(dock, message, output))
+    answered(receiving::message(dock, message, output))
 }
 
 fn take_message(dock: Dock, output: &mut [u8]) -> Taken {
@@ -161,8 +161,8 @@ pub fn take(kind: u8, dock: Dock, output: &mut [u8]) -> Taken {
         MESSAGE => take_message(dock, output),
         LOAD => take_load(dock),
         GIVE..=BUSY => take_answer(policy_of(kind), dock, output),
-        SENT => answered(dock::sent(dock)),
-        FAILED => answered(dock::failed(dock)),
+        SENT => answered(confirming::sent(dock)),
+        FAILED => answered(confirming::failed(dock)),
         _ => unknown(dock),
     }
 }

@@ -43,11 +43,11 @@ fn with_dock(far_end: FarEnd, step: Step) -> FarEnd {
 // A request reaches the dock, or the dock hears of its answer.
 fn heard(dock: Dock, request: [u8; REQUEST], event: Event) -> Step {
     match event {
-        Event::Sent => dock::sent(dock),
-        Event::Failed => dock::failed(dock),
+        Event::Sent => confirming::sent(dock),
+        Event::Failed => confirming::failed(dock),
         _ => {
             let mut nothing = [0u8; 0];
-            dock::message(dock, &request, &mut nothing)
+            receiving::message(dock, &request, &mut nothing)
         }
     }
 }

@@ -1,9 +1,9 @@
 -- `asking_for` meets its promise.
 use mathlib.Core.Path.{_∙_}
 use Rattle.dock.proofs.Decisions.{asking-identity, asking-other}
 use borrow.Author.Needs.{needs}
-use Rattle.dock.proofs.receiving.asking_for.Statement.{statement}
-use Rattle.dock.proofs.receiving.asking_for.Tie as tie
+use Rattle.receiving.proofs.asking_for.Statement.{statement}
+use Rattle.receiving.proofs.asking_for.Tie as tie
 
 returns : tie.Need-returns
 returns c = asking-identity (c .before .before .before .before .args .request) (c .before .before .before .before .args .dock) (c .before .before .if1 .taken)

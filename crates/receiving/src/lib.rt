@@ -1,14 +1,14 @@
-// A message that arrives.
+// A message reaches the dock end: document 01, "The dock end". The state is that of `dock`.
 ghost use mathlib.Core.Path.{_≡_};
 ghost use Rattle.messages.specs.Reading.{readOutcome};
 ghost use Rattle.dock.specs.Dock.{asking, decideRequest, decideMessage, Stepped};
-use crate::Dock;
-use crate::Standing;
-use crate::Step;
-use crate::replying::accepted;
-use crate::replying::refused;
-use crate::replying::send_bare;
-use crate::replying::standing_at;
+use dock::Dock;
+use dock::Standing;
+use dock::Step;
+use dock::accepted;
+use dock::refused;
+use dock::send_bare;
+use dock::standing_at;
 use messages::ATTENTION;
 use messages::Answer;
 use messages::EXIT;

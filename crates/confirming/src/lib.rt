@@ -1,12 +1,12 @@
-// What becomes of an answer: "sent" or "failed".
+// What becomes of an answer of the dock end, "sent" or "failed": document 01, "The dock end". The state is that of `dock`.
 ghost use mathlib.Core.Path.{_≡_};
 ghost use Rattle.dock.specs.Dock.{moved, decideSent, decideFailed, stepOf};
-use crate::Dock;
-use crate::Standing;
-use crate::Step;
-use crate::replying::accepted;
-use crate::replying::refused;
-use crate::replying::standing_at;
+use dock::Dock;
+use dock::Standing;
+use dock::Step;
+use dock::accepted;
+use dock::refused;
+use dock::standing_at;
 use pages::first_svids;
 
 // A page that does not end the list moves on to the next; the last stays until the next Identity.

@@ -1,11 +1,11 @@
 -- `receive` meets its promise.
 use mathlib.Core.Path.{ap, _∙_}
 use Rattle.dock.specs.Dock.{acceptedBy, asking}
 use Rattle.dock.proofs.Decisions.{request-zero, request-past, request-asked}
 use Rattle.dock.proofs.Steps.{same, turn}
 use borrow.Author.Needs.{needs}
-use Rattle.dock.proofs.receiving.receive.Statement.{statement}
-use Rattle.dock.proofs.receiving.receive.Tie as tie
+use Rattle.receiving.proofs.receive.Statement.{statement}
+use Rattle.receiving.proofs.receive.Tie as tie
 
 send-bare-requires : tie.Need-send-bare-requires
 send-bare-requires c κs = search needs

@@ -3,12 +3,12 @@ use mathlib.Core.Path.{ap, sym, _∙_}
 use Prim.Native.Nat.{ℕ}
 use Rattle.messages.specs.Reading.{readOutcome, answerNumber}
 use Rattle.messages.proofs.Laws.{answer-message, answer-refused}
 use Rattle.dock.specs.Dock.{refusedBy, decideRequest}
 use Rattle.dock.proofs.Decisions.{message-refused, message-answer, message-attention, message-request}
 use Rattle.dock.proofs.Steps.{refuse, same}
 use borrow.Author.Needs.{needs}
-use Rattle.dock.proofs.receiving.message.Statement.{statement}
-use Rattle.dock.proofs.receiving.message.Tie as tie
+use Rattle.receiving.proofs.message.Statement.{statement}
+use Rattle.receiving.proofs.message.Tie as tie
 
 read-requires : tie.Need-read-requires
 read-requires c κs = search needs

@@ -1,12 +1,12 @@
 -- `sent` meets its promise.
 use mathlib.Core.Path.{ap, _∙_}
 use mathlib.Core.List.{[]}
 use Rattle.dock.specs.Dock.{acceptedBy}
 use Rattle.dock.proofs.Decisions.{sent-standing, sent-moves}
 use Rattle.dock.proofs.Steps.{refuse, turn}
 use borrow.Author.Needs.{needs}
-use Rattle.dock.proofs.confirming.sent.Statement.{statement}
-use Rattle.dock.proofs.confirming.sent.Tie as tie
+use Rattle.confirming.proofs.sent.Statement.{statement}
+use Rattle.confirming.proofs.sent.Tie as tie
 
 enum-known-standing : tie.Need-enum-known-standing
 enum-known-standing c = search needs

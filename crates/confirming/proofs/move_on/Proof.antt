@@ -5,10 +5,10 @@ use Prim.Native.Nat.{ℕ}
 use native.Mathlib.Omega.{arith}
 use borrow.Author.Tests.{not-true, not-false}
 use Rattle.pages.specs.Pages.{isLast}
 use Rattle.dock.proofs.Decisions.{moved-on, moved-last, moved-other, next-fits}
 use borrow.Author.Needs.{needs}
-use Rattle.dock.proofs.confirming.move_on.Statement.{statement}
-use Rattle.dock.proofs.confirming.move_on.Tie as tie
+use Rattle.confirming.proofs.move_on.Statement.{statement}
+use Rattle.confirming.proofs.move_on.Tie as tie
 
 standing-at-requires : tie.Need-standing-at-requires
 standing-at-requires c κs = search needs

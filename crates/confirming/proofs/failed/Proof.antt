@@ -1,12 +1,12 @@
 -- `failed` meets its promise.
 use mathlib.Core.Path.{ap, _∙_}
 use mathlib.Core.List.{[]}
 use Rattle.dock.specs.Dock.{acceptedBy}
 use Rattle.dock.proofs.Decisions.{failed-standing, failed-ready}
 use Rattle.dock.proofs.Steps.{refuse, turn}
 use borrow.Author.Needs.{needs}
-use Rattle.dock.proofs.confirming.failed.Statement.{statement}
-use Rattle.dock.proofs.confirming.failed.Tie as tie
+use Rattle.confirming.proofs.failed.Statement.{statement}
+use Rattle.confirming.proofs.failed.Tie as tie
 
 enum-told : tie.Need-enum-told
 enum-told c = search needs

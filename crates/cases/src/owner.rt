@@ -1,10 +1,10 @@
 // The turns of the laptop's owner: it asks what it needs next, and hears an answer.
 use crate::written::Message;
-use crate::written::first_bytes;
 use crate::written::nothing;
 use driving::owning;
 use driving::owning::Owner;
 use events::Call;
+use text::input::first_bytes;
 
 // What a call gave: the refusal number, the request to send, and the owner after it.
 pub struct Turn {

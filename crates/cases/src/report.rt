@@ -1,6 +1,5 @@
 // The parts of a case's lines.
 use crate::written::Message;
-use crate::written::first_bytes;
 use driving::fields::with_held;
 use driving::fields::with_number;
 use driving::line::Line;
@@ -10,6 +9,7 @@ use driving::line::with_half;
 use driving::line::with_text;
 use driving::owning::Owner;
 use driving::owning::write_held;
+use text::input::first_bytes;
 use text::input::half_of;
 
 // 01's bound on the bytes of a catalogue.

@@ -1,6 +1,5 @@
 // The dock as the cases have it: its data, and policy behind it.
 use crate::written::Message;
-use crate::written::first_bytes;
 use crate::written::nothing;
 use dock::Dock;
 use dock::Policy;
@@ -9,6 +8,7 @@ use messages::MODES;
 use messages::first_objects;
 use pages::MOST_SVIDS;
 use pages::first_svids;
+use text::input::first_bytes;
 
 pub const IDENTITY_OBJECTS: [u32; 3] = [1, 2, 3];
 

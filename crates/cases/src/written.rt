@@ -19,14 +19,6 @@ pub fn nothing() -> Message {
     }
 }
 
-// The first bytes, or all where there are fewer.
-pub fn first_bytes(bytes: &[u8], length: usize) -> &[u8] {
-    if length <= bytes.len() {
-        return &bytes[0..length];
-    }
-    bytes
-}
-
 // The message of a head that has no position, or nothing where it is refused.
 pub fn write(svid: u16, command: u8, kind: u8, objects: &[u32]) -> Message {
     let head = Head {

@@ -10,8 +10,8 @@ use laptop::Held;
 use laptop::Laptop;
 use laptop::Wait;
 use messages::Request;
-use text::line::append;
 use text::line::append_field;
+use text::line::append_nothing;
 
 // The number of a stream and of an event in it: a line's first two fields.
 pub fn place(stream: u64, number: u64) -> Line {
@@ -67,11 +67,7 @@ pub fn with_held(line: Line, held: Held) -> Line {
     }
 }
 
-// The same two fields of a line that is lent, and says where its text ends.
-pub fn append_nothing(line: &mut [u8], at: usize) -> usize {
-    append(line, at, b" -")
-}
-
+// The same of a line that is lent, and says where its text ends.
 pub fn append_held(line: &mut [u8], at: usize, held: Held) -> usize {
     match held {
         Held::Nothing => append_nothing(line, at),

@@ -13,6 +13,7 @@ use events::Call;
 use laptop::Step;
 use laptop::Told;
 use text::input::GREATEST;
+use text::input::first_bytes;
 use text::input::length_of;
 
 // A request is one object.
@@ -186,13 +187,6 @@ fn lend(owner: Owner, lengths: Lengths) -> State {
         owner,
         output: lengths.output,
     }
-}
-
-fn first_bytes(bytes: &[u8], length: usize) -> &[u8] {
-    if length <= bytes.len() {
-        return &bytes[0..length];
-    }
-    bytes
 }
 
 pub fn take(state: State, event: Event, message: &[u8; LONGEST_MESSAGE]) -> Outcome {

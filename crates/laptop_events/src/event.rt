@@ -3,9 +3,11 @@ ghost use Prim.Native.Nat.{_≤_};
 use driving::calls::take_call;
 use driving::owning::RUN;
 use events::Call;
+use text::input::Byte;
 use text::input::fill;
 use text::input::half_of;
 use text::input::length_of;
+use text::input::read_byte;
 
 // The kinds of event. From FIRST_CALL to LAST_CALL they are those of the watcher.
 const MESSAGE: u8 = 0x01;
@@ -59,11 +61,10 @@ pub fn at_most(number: usize, most: usize) -> usize
 }
 
 fn take_message(message: &mut [u8]) -> Taken {
-    let mut length = [0u8; 1];
-    if !fill(&mut length) {
+    let Byte::Read(length) = read_byte() else {
         return Taken::Cut;
-    }
-    let count = at_most(length_of(length[0]), message.len());
+    };
+    let count = at_most(length_of(length), message.len());
     if !fill(&mut message[0..count]) {
         return Taken::Cut;
     }
@@ -113,11 +114,9 @@ fn take_watcher_call(kind: u8) -> Taken {
 
 // The bytes of a message are put first into the array.
 pub fn take_event(message: &mut [u8; LONGEST_MESSAGE]) -> Taken {
-    let mut kind = [0u8; 1];
-    if !fill(&mut kind) {
+    let Byte::Read(kind) = read_byte() else {
         return Taken::Nothing;
-    }
-    let kind = kind[0];
+    };
     match kind {
         MESSAGE => take_message(message),
         FIRST_CALL..=LAST_CALL => take_watcher_call(kind),

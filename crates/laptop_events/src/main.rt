@@ -10,29 +10,27 @@ use event::Taken;
 use event::take_event;
 use libc::STDOUT_FILENO;
 use report::print_event;
-use text::line::print_last;
-
-// A proved loop has to end, and nothing says that the input does. So after this many events the input counts as ended, and after this many streams.
-const MOST_EVENTS: u64 = 1000000;
-
-const MOST_STREAMS: u64 = 1000000;
+use text::stream::Finish;
+use text::stream::MOST;
+use text::stream::Turn;
+use text::stream::print_finish;
 
 // What stood where the next event was to be, and how many events of all streams were answered before.
-struct Finish {
+struct Stream {
     taken: Taken,
     count: u64,
 }
 
 // Answers a stream, whose laptop is fresh, after so many events of the streams before it.
-fn answer_stream(stream: u64, before: u64) -> Finish {
+fn answer_stream(stream: u64, before: u64) -> Stream {
     let mut message = [0u8; LONGEST_MESSAGE];
     let mut state = begin();
     let mut count = before;
     let mut number: u64 = 0;
-    while count < MOST_EVENTS {
+    while count < MOST {
         let taken = take_event(&mut message);
         let Taken::Whole(event) = taken else {
-            return Finish { taken, count };
+            return Stream { taken, count };
         };
         let outcome = take(state, event, &message);
         state = outcome.state;
@@ -40,33 +38,33 @@ fn answer_stream(stream: u64, before: u64) -> Finish {
         number += 1;
         print_event(stream, number, outcome);
     }
-    Finish {
+    Stream {
         taken: Taken::Nothing,
         count,
     }
 }
 
-fn answer_all() -> Finish {
-    let mut finish = answer_stream(1, 0);
+fn answer_all() -> Stream {
+    let mut answered = answer_stream(1, 0);
     let mut stream: u64 = 1;
-    while stream < MOST_STREAMS {
-        let taken = finish.taken;
+    while stream < MOST {
+        let taken = answered.taken;
         let Taken::NewStream = taken else {
-            return finish;
+            return answered;
         };
         stream += 1;
-        finish = answer_stream(stream, finish.count);
+        answered = answer_stream(stream, answered.count);
     }
-    finish
+    answered
 }
 
-fn print_finish(finish: Finish) {
-    let taken = finish.taken;
-    match taken {
-        Taken::Unknown => print_last(b"unknown kind after ", finish.count, b" events\n"),
-        Taken::Cut => print_last(b"cut after ", finish.count, b" events\n"),
-        _ => print_last(b"end ", finish.count, b" events\n"),
-    }
+fn finish_of(taken: Taken, answered: u64) -> Finish {
+    let turn = match taken {
+        Taken::Unknown => Turn::Unknown,
+        Taken::Cut => Turn::Cut,
+        _ => Turn::Ended,
+    };
+    Finish { turn, answered }
 }
 
 fn main() {
@@ -74,5 +72,6 @@ fn main() {
         STDOUT_FILENO,
         b"stream event refusal sent output told awaited candidate pages held candidate_run held_run catalogue report\n",
     );
-    print_finish(answer_all());
+    let answered = answer_all();
+    print_finish(finish_of(answered.taken, answered.count), b" events\n");
 }

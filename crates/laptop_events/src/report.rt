@@ -25,17 +25,14 @@ use laptop::Laptop;
 use laptop::Notice;
 use laptop::Told;
 use messages::Request;
+use text::input::first_bytes;
 
 fn with_sent(line: Line, sent: &[u8], length: u8) -> Line {
     let end = length as usize;
     if end == 0 {
         return with_nothing(line);
     }
-    let line = with_text(line, b" ");
-    if end <= sent.len() {
-        return with_bytes(line, &sent[0..end]);
-    }
-    line
+    with_bytes(with_text(line, b" "), first_bytes(sent, end))
 }
 
 fn with_output(line: Line, output: Output) -> Line {

@@ -1,7 +1,8 @@
 // The events, and reading one from standard input.
 use driving::calls::take_call;
 use events::Call;
-use text::input::fill;
+use text::input::Byte;
+use text::input::read_byte;
 
 // The kinds of event. The laptop's calls have those of the watcher.
 const NEXT: u8 = 0x40;
@@ -79,11 +80,9 @@ fn event_of(kind: u8) -> Event {
 }
 
 pub fn take_event() -> Taken {
-    let mut kind = [0u8; 1];
-    if !fill(&mut kind) {
+    let Byte::Read(kind) = read_byte() else {
         return Taken::Nothing;
-    }
-    let kind = kind[0];
+    };
     match kind {
         NEXT..=DROP => take_laptop_call(kind),
         TIMER => Taken::Whole(Event::Timer),

@@ -15,6 +15,7 @@ use driving::line::with_text;
 use driving::owning::Owner;
 use driving::owning::write_held;
 use laptop::Laptop;
+use text::input::first_bytes;
 
 const LONGEST_CATALOGUE: usize = 2402;
 
@@ -32,13 +33,6 @@ fn with_refusal(line: Line, refusal: Refusal) -> Line {
     }
 }
 
-fn digest_of_first(bytes: &[u8], length: usize) -> u32 {
-    if length <= bytes.len() {
-        return of_bytes(&bytes[0..length]);
-    }
-    of_bytes(bytes)
-}
-
 // The digest of the held catalogue's bytes.
 fn with_catalogue(line: Line, owner: Owner) -> Line {
     let mut buffer = [0u8; LONGEST_CATALOGUE];
@@ -46,7 +40,7 @@ fn with_catalogue(line: Line, owner: Owner) -> Line {
     if bytes.refusal != 0 {
         return with_nothing(line);
     }
-    with_digest(line, digest_of_first(&buffer, bytes.length as usize))
+    with_digest(line, of_bytes(first_bytes(&buffer, bytes.length as usize)))
 }
 
 fn with_laptop(line: Line, laptop: Laptop) -> Line {

@@ -6,10 +6,12 @@ use laptop::MODES_EACH;
 use laptop::RUN_WORDS;
 use messages::first_objects;
 use pages::first_svids;
+use text::input::Byte;
 use text::input::fill;
 use text::input::fill_halves;
 use text::input::fill_words;
 use text::input::length_of;
+use text::input::read_byte;
 
 // Not a refusal of the dock's.
 const UNREAD: u8 = 255;
@@ -30,11 +32,10 @@ enum Number {
 }
 
 fn read_number() -> Number {
-    let mut byte = [0u8; 1];
-    if !fill(&mut byte) {
+    let Byte::Read(number) = read_byte() else {
         return Number::Bad;
-    }
-    Number::Good(byte[0])
+    };
+    Number::Good(number)
 }
 
 // A number, and so many words: at most as many as there is room for.

@@ -14,14 +14,6 @@ pub fn end_line(line: &mut [u8], at: usize) {
     print_line(line, end);
 }
 
-// A program's last line: how the input ended, how many were answered before that, and the rest. It
-// stands once in an output, so it is not worth a buffer.
-pub fn print_last(ending: &[u8], answered: u64, rest: &[u8]) {
-    io::write_all(STDOUT_FILENO, ending);
-    io::print_decimal(STDOUT_FILENO, answered);
-    io::write_all(STDOUT_FILENO, rest);
-}
-
 // The callers lend lines with room for all of their text, and testing it spares them the proof.
 pub fn put(line: &mut [u8], at: usize, byte: u8) -> usize {
     if at < line.len() {

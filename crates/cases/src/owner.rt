@@ -4,7 +4,7 @@ use crate::written::nothing;
 use driving::owning;
 use driving::owning::Owner;
 use events::Call;
-use text::input::first_bytes;
+use streams::input::first_bytes;
 
 // What a call gave: the refusal number, the request to send, and the owner after it.
 pub struct Turn {

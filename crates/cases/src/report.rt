@@ -9,8 +9,8 @@ use driving::line::with_half;
 use driving::line::with_text;
 use driving::owning::Owner;
 use driving::owning::write_held;
-use text::input::first_bytes;
-use text::input::half_of;
+use streams::input::first_bytes;
+use streams::input::half_of;
 
 // 01's bound on the bytes of a catalogue.
 const CATALOGUE: usize = 2402;

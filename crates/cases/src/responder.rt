@@ -8,7 +8,7 @@ use messages::MODES;
 use messages::first_objects;
 use pages::MOST_SVIDS;
 use pages::first_svids;
-use text::input::first_bytes;
+use streams::input::first_bytes;
 
 pub const IDENTITY_OBJECTS: [u32; 3] = [1, 2, 3];
 

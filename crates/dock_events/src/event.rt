@@ -3,15 +3,15 @@ use dock::Dock;
 use dock::Policy;
 use dock::Step;
 use messages::Request;
-use text::input::Byte;
-use text::input::GREATEST;
-use text::input::fill;
-use text::input::fill_halves;
-use text::input::fill_words;
-use text::input::half_of;
-use text::input::length_of;
-use text::input::read_byte;
-use text::stream::Turn;
+use streams::finish::Turn;
+use streams::input::Byte;
+use streams::input::GREATEST;
+use streams::input::fill;
+use streams::input::fill_halves;
+use streams::input::fill_words;
+use streams::input::half_of;
+use streams::input::length_of;
+use streams::input::read_byte;
 
 // The kinds of event. From 1 to MOST_OBJECTS, a kind is a message of that many objects.
 const MOST_OBJECTS: u8 = 7;

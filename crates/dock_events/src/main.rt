@@ -6,14 +6,14 @@ use dock::Dock;
 use event::unchanged;
 use libc::STDOUT_FILENO;
 use report::print_event;
-use text::input::Byte;
-use text::input::GREATEST;
-use text::input::length_of;
-use text::input::read_byte;
-use text::stream::Finish;
-use text::stream::MOST;
-use text::stream::Turn;
-use text::stream::print_finish;
+use streams::finish::Finish;
+use streams::finish::MOST;
+use streams::finish::Turn;
+use streams::finish::print_finish;
+use streams::input::Byte;
+use streams::input::GREATEST;
+use streams::input::length_of;
+use streams::input::read_byte;
 
 // The kind of the event that gives the output buffer another number of bytes. Module `event` has
 // the others.

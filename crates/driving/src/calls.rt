@@ -7,7 +7,7 @@ use events::body_length;
 use events::read_event;
 use laptop::Laptop;
 use laptop::Step;
-use text::input::fill;
+use streams::input::fill;
 
 // A call that was read whole, or why there is none.
 pub enum Taken {

@@ -12,9 +12,9 @@ use driving::owning::write_held;
 use events::Call;
 use laptop::Step;
 use laptop::Told;
-use text::input::GREATEST;
-use text::input::first_bytes;
-use text::input::length_of;
+use streams::input::GREATEST;
+use streams::input::first_bytes;
+use streams::input::length_of;
 
 // A request is one object.
 const OBJECT: usize = 4;

@@ -3,11 +3,11 @@ ghost use Prim.Native.Nat.{_≤_};
 use driving::calls::take_call;
 use driving::owning::RUN;
 use events::Call;
-use text::input::Byte;
-use text::input::fill;
-use text::input::half_of;
-use text::input::length_of;
-use text::input::read_byte;
+use streams::input::Byte;
+use streams::input::fill;
+use streams::input::half_of;
+use streams::input::length_of;
+use streams::input::read_byte;
 
 // The kinds of event. From FIRST_CALL to LAST_CALL they are those of the watcher.
 const MESSAGE: u8 = 0x01;

@@ -10,10 +10,10 @@ use event::Taken;
 use event::take_event;
 use libc::STDOUT_FILENO;
 use report::print_event;
-use text::stream::Finish;
-use text::stream::MOST;
-use text::stream::Turn;
-use text::stream::print_finish;
+use streams::finish::Finish;
+use streams::finish::MOST;
+use streams::finish::Turn;
+use streams::finish::print_finish;
 
 // What stood where the next event was to be, and how many events of all streams were answered before.
 struct Stream {

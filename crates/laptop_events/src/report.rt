@@ -25,7 +25,7 @@ use laptop::Laptop;
 use laptop::Notice;
 use laptop::Told;
 use messages::Request;
-use text::input::first_bytes;
+use streams::input::first_bytes;
 
 fn with_sent(line: Line, sent: &[u8], length: u8) -> Line {
     let end = length as usize;

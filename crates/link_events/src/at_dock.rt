@@ -20,7 +20,7 @@ use messages::Request;
 use messages::SVIDS;
 use messages::first_objects;
 use pages::first_svids;
-use text::input::length_of;
+use streams::input::length_of;
 
 const PER_PAGE: u8 = 12;
 

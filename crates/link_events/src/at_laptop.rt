@@ -20,7 +20,7 @@ use laptop::Step;
 use laptop::Wait;
 use messages::ENTER;
 use messages::EXIT;
-use text::input::first_bytes;
+use streams::input::first_bytes;
 
 fn timer_of(command: u8) -> Call {
     match command {

@@ -1,8 +1,8 @@
 // The events, and reading one from standard input.
 use driving::calls::take_call;
 use events::Call;
-use text::input::Byte;
-use text::input::read_byte;
+use streams::input::Byte;
+use streams::input::read_byte;
 
 // The kinds of event. The laptop's calls have those of the watcher.
 const NEXT: u8 = 0x40;

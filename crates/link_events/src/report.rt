@@ -15,7 +15,7 @@ use driving::line::with_text;
 use driving::owning::Owner;
 use driving::owning::write_held;
 use laptop::Laptop;
-use text::input::first_bytes;
+use streams::input::first_bytes;
 
 const LONGEST_CATALOGUE: usize = 2402;
 

@@ -6,12 +6,12 @@ use laptop::MODES_EACH;
 use laptop::RUN_WORDS;
 use messages::first_objects;
 use pages::first_svids;
-use text::input::Byte;
-use text::input::fill;
-use text::input::fill_halves;
-use text::input::fill_words;
-use text::input::length_of;
-use text::input::read_byte;
+use streams::input::Byte;
+use streams::input::fill;
+use streams::input::fill_halves;
+use streams::input::fill_words;
+use streams::input::length_of;
+use streams::input::read_byte;
 
 // Not a refusal of the dock's.
 const UNREAD: u8 = 255;

@@ -1,5 +1,2 @@
-// What the programs share: reading numbers from standard input, building lines of output, both in blocks, and how a stream ends.
-pub mod block;
-pub mod input;
+// What the programs share of writing: a line of output, built in a buffer that is lent.
 pub mod line;
-pub mod stream;

@@ -1,11 +1,24 @@
 // One line of output, built in a buffer that the caller lends, so that one call writes it. Each
 // function that adds to the line puts its text at `at` and answers where that text ends.
-use crate::input::first_bytes;
 use libc::STDOUT_FILENO;
 
-// `end` lies within every line.
+// A part is written `0..end` in this crate, and not `..end`, since Rattle then proves its length with no proof file. `end` lies within every line:
+// testing it spares the callers the proof.
 pub fn print_line(line: &[u8], end: usize) {
-    io::write_all(STDOUT_FILENO, first_bytes(line, end));
+    if end <= line.len() {
+        io::write_all(STDOUT_FILENO, &line[0..end]);
+    }
+}
+
+// Writes the text of a block of output in which fewer bytes than wanted are left, and answers where the next text starts.
+pub fn make_room(block: &[u8], at: usize, wanted: usize) -> usize {
+    if at <= block.len() {
+        if wanted <= block.len() - at {
+            return at;
+        }
+    }
+    print_line(block, at);
+    0
 }
 
 // Ends the line and writes it.

@@ -4,14 +4,14 @@ mod read_vector;
 mod write_vector;
 
 use libc::STDOUT_FILENO;
-use text::input::Byte;
-use text::input::read_byte;
+use streams::finish::Finish;
+use streams::finish::MOST;
+use streams::finish::Turn;
+use streams::finish::print_finish;
+use streams::input::Byte;
+use streams::input::read_byte;
 use text::line::append;
 use text::line::append_decimal;
-use text::stream::Finish;
-use text::stream::MOST;
-use text::stream::Turn;
-use text::stream::print_finish;
 
 // The kinds of vector.
 const READ: u8 = 1;

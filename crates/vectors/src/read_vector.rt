@@ -5,18 +5,18 @@ use messages::Answer;
 use messages::Head;
 use messages::Reading;
 use messages::first_objects;
-use text::input::Byte;
-use text::input::GREATEST;
-use text::input::fill;
-use text::input::length_of;
-use text::input::read_byte;
+use streams::finish::Turn;
+use streams::input::Byte;
+use streams::input::GREATEST;
+use streams::input::fill;
+use streams::input::length_of;
+use streams::input::read_byte;
 use text::line::append;
 use text::line::append_decimal;
 use text::line::append_field;
 use text::line::append_half;
 use text::line::append_words;
 use text::line::end_line;
-use text::stream::Turn;
 
 // The fields of a header behind its SVID.
 fn append_fields(line: &mut [u8], at: usize, head: Head) -> usize {

@@ -2,15 +2,15 @@
 use crate::LONGEST;
 use crate::begin_line;
 use messages::Head;
-use text::input::GREATEST;
-use text::input::fill;
-use text::input::fill_words;
-use text::input::half_of;
-use text::input::length_of;
+use streams::finish::Turn;
+use streams::input::GREATEST;
+use streams::input::fill;
+use streams::input::fill_words;
+use streams::input::half_of;
+use streams::input::length_of;
 use text::line::append_decimal;
 use text::line::append_spaced_bytes;
 use text::line::end_line;
-use text::stream::Turn;
 
 // The length of the part before the objects, and where its last two bytes stand.
 const FIXED: usize = 7;

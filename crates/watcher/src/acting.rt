@@ -8,7 +8,7 @@ use events::Event;
 use laptop::Laptop;
 use laptop::RUN_WORDS;
 use laptop::Step;
-use text::input::word_of;
+use streams::input::word_of;
 
 // A request is one object.
 const OBJECT: usize = 4;

@@ -10,11 +10,11 @@ use state::State;
 use state::answered;
 use state::begin;
 use state::find_next;
+use streams::finish::Finish;
+use streams::finish::MOST;
+use streams::finish::Turn;
+use streams::finish::print_finish;
 use text::line::print_line;
-use text::stream::Finish;
-use text::stream::MOST;
-use text::stream::Turn;
-use text::stream::print_finish;
 
 // How many bytes are read or written at once.
 const BLOCK: usize = 16384;

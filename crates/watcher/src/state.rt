@@ -6,16 +6,16 @@ use events::Found;
 use events::LONGEST_EVENT;
 use events::read_event;
 use laptop::Laptop;
-use text::block::Unread;
-use text::block::make_room;
-use text::block::nothing_read;
-use text::block::refill;
-use text::block::taken;
-use text::block::unread_bytes;
+use streams::block::Unread;
+use streams::block::nothing_read;
+use streams::block::refill;
+use streams::block::taken;
+use streams::block::unread_bytes;
 use text::line::append_decimal;
 use text::line::append_field;
 use text::line::append_nothing;
 use text::line::append_spaced_word;
+use text::line::make_room;
 use text::line::put;
 
 // The longest line: a number of seven digits, a refusal, eight digits of a header, a page count and a number of SVIDs of three digits each, a

@@ -1,8 +1,6 @@
 //! Catalogue bytes, held against values worked out by hand from document 01.
 
-mod bench;
-
-use bench::{Bench, UNWRITTEN_WORD};
+use crate::bench::{Bench, UNWRITTEN_WORD};
 use second::catalogue::MOST_CATALOGUE_BYTES;
 
 /// Case L's catalogue.

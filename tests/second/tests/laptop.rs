@@ -1,8 +1,6 @@
 //! The laptop end, held against values worked out by hand from document 01.
 
-mod bench;
-
-use bench::{bytes, page_ack, Bench, Seen, IDENTITY_ACK, ROOM, RUN_WORDS, UNWRITTEN_WORD};
+use crate::bench::{bytes, page_ack, Bench, Seen, IDENTITY_ACK, ROOM, RUN_WORDS, UNWRITTEN_WORD};
 use second::laptop::Candidate::{ListDone, ListOpen};
 use second::laptop::{Answer, Candidate, Laptop, Reason, Runs, Told};
 use second::messages::{read, Request};

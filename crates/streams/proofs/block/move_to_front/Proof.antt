@@ -1,11 +1,11 @@
--- `text::block::move_to_front` meets its contract. The block keeps its length, and the measure is how many bytes are left to move.
+-- `streams::block::move_to_front` meets its contract. The block keeps its length, and the measure is how many bytes are left to move.
 -- Assumes nothing.
 use lib.ListN.{length}
 use mathlib.Core.Path.{_≡_}
 use Prim.Native.Nat.{_-_}
 use borrow.Author.Needs.{needs}
-use Rattle.text.proofs.block.move_to_front.Statement.{statement}
-use Rattle.text.proofs.block.move_to_front.Tie as tie
+use Rattle.streams.proofs.block.move_to_front.Statement.{statement}
+use Rattle.streams.proofs.block.move_to_front.Tie as tie
 
 abbrev Inv-loop : tie.InvT-loop
 Inv-loop block₀ start end count index₀ block index = length block ≡ length block₀

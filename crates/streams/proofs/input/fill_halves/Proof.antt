@@ -1,11 +1,11 @@
--- `text::input::fill_halves` is safe and ends. The halves keep their number, and the measure is how many are left.
+-- `streams::input::fill_halves` is safe and ends. The halves keep their number, and the measure is how many are left.
 -- Assumes nothing.
 use borrow.Author.Needs.{needs}
 use lib.ListN.{length}
 use mathlib.Core.Path.{_≡_}
 use Prim.Native.Nat.{_-_}
-use Rattle.text.proofs.input.fill_halves.Statement.{statement}
-use Rattle.text.proofs.input.fill_halves.Tie as tie
+use Rattle.streams.proofs.input.fill_halves.Statement.{statement}
+use Rattle.streams.proofs.input.fill_halves.Tie as tie
 
 abbrev Inv-loop : tie.InvT-loop
 Inv-loop halves₀ index₀ halves index = length halves ≡ length halves₀

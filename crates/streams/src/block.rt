@@ -1,8 +1,7 @@
-// Standard input and output in blocks: buffers that the caller lends, so that one call of the C library moves many events or lines.
+// Standard input in blocks: a buffer that the caller lends, so that one call of the C library reads many events.
 ghost use Prim.Native.Nat.{_≤_};
 ghost use lib.ListN.{length};
 use crate::input::first_bytes;
-use crate::line::print_line;
 use libc::STDIN_FILENO;
 
 // The part of a block of input that is read and not yet taken, and whether the input ended behind it.
@@ -90,15 +89,4 @@ pub fn refill(block: &mut [u8], unread: Unread, wanted: usize) -> Unread {
     }
     let kept = move_to_front(block, unread);
     read_behind(block, kept)
-}
-
-// Writes the text of a block of output in which fewer bytes than wanted are left, and answers where the next text starts.
-pub fn make_room(block: &[u8], at: usize, wanted: usize) -> usize {
-    if at <= block.len() {
-        if wanted <= block.len() - at {
-            return at;
-        }
-    }
-    print_line(block, at);
-    0
 }

@@ -1,11 +1,11 @@
--- `text::input::fill_words` is safe and ends. The words keep their number, and the measure is how many are left.
+-- `streams::input::fill_words` is safe and ends. The words keep their number, and the measure is how many are left.
 -- Assumes nothing.
 use borrow.Author.Needs.{needs}
 use lib.ListN.{length}
 use mathlib.Core.Path.{_≡_}
 use Prim.Native.Nat.{_-_}
-use Rattle.text.proofs.input.fill_words.Statement.{statement}
-use Rattle.text.proofs.input.fill_words.Tie as tie
+use Rattle.streams.proofs.input.fill_words.Statement.{statement}
+use Rattle.streams.proofs.input.fill_words.Tie as tie
 
 abbrev Inv-loop : tie.InvT-loop
 Inv-loop words₀ index₀ words index = length words ≡ length words₀

@@ -1,0 +1,19 @@
+//! Every test of the second implementation, a module for each part.
+
+mod bench;
+mod cases;
+mod catalogue;
+mod demand_3;
+mod difference;
+mod digest;
+mod dock;
+mod dock_events;
+mod laptop;
+mod laptop_events;
+mod link;
+mod link_events;
+mod messages;
+mod pages;
+mod reached;
+mod vectors;
+mod watcher;

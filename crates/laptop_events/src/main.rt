@@ -73,5 +73,6 @@ fn main() {
         b"stream event refusal sent output told awaited candidate pages held candidate_run held_run catalogue report\n",
     );
     let answered = answer_all();
-    print_finish(finish_of(answered.taken, answered.count), b" events\n");
+    let taken = answered.taken;
+    print_finish(finish_of(taken, answered.count), b" events\n");
 }

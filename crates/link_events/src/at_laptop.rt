@@ -1,4 +1,5 @@
 // Events at the laptop: its calls, and an answer that arrives.
+use crate::link::ANSWER;
 use crate::link::Link;
 use crate::link::REQUEST;
 use crate::link::answer_arrived;
@@ -99,6 +100,10 @@ fn opened_or_not(lost: u64, before: Laptop, after: Laptop) -> u64 {
     lost
 }
 
+fn answer_in(bytes: &[u8; ANSWER], length: u8) -> &[u8] {
+    first_bytes(bytes, length as usize)
+}
+
 // The far end after the laptop, which stood so before, has taken the answer.
 fn arrived(far_end: FarEnd, before: Laptop, step: Step) -> FarEnd {
     let laptop = step.laptop;
@@ -115,7 +120,7 @@ fn arrived(far_end: FarEnd, before: Laptop, step: Step) -> FarEnd {
 pub fn arrive(owner: Owner, far_end: FarEnd) -> State {
     let link = far_end.link;
     let bytes = link.bytes;
-    let turn = hear(owner, first_bytes(&bytes, link.length as usize));
+    let turn = hear(owner, answer_in(&bytes, link.length));
     let far_end = arrived(far_end, owner.laptop, turn.step);
     let owner = turn.owner;
     State { owner, far_end }

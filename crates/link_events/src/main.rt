@@ -99,5 +99,6 @@ fn main() {
         b"stream event permitted refusal pages candidate held catalogue page lost\n",
     );
     let answered = answer_all();
-    print_last(answered.taken, answered.count);
+    let taken = answered.taken;
+    print_last(taken, answered.count);
 }

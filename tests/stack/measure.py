@@ -10,11 +10,17 @@ MOST = 1024
 LIBRARY = "target/staticlib/libcontroller.a"
 EXPORTED = re.compile(r'#\[no_mangle\]\s+pub extern "C" fn (\w+)')
 PUBLIC = re.compile(r"^pub (?:use \w+::|fn )([a-z]\w*)", re.MULTILINE)
-# No call of 01: the list that `report` and `write_catalogue` read, and what `hearing::message` is made of, in whose frames they are counted.
+# No calls of 01: parts that stand between crates, in whose callers' frames they are counted.
 PARTS = {
-    f"laptop::{name}"
-    for name in ("held_list", "place_of", "set_at", "marked", "unmarked", "refused", "turned", "ended", "dropped", "short_runs")
+    f"{crate}::{name}"
+    for crate, names in (
+        ("laptop", "held_list place_of set_at named marked unmarked refused turned ended dropped short_runs"),
+        ("owner", "owner_refusal ask"),
+        ("dock", "refused accepted standing_at send send_bare"),
+    )
+    for name in names.split()
 }
+ENDS = ("dock", "loading", "receiving", "answering", "confirming", "laptop", "timers", "owner", "modes", "hearing", "catalogue")
 
 
 def sources(root, crate):
@@ -22,7 +28,7 @@ def sources(root, crate):
 
 
 def public_calls(root):
-    for crate in ("dock", "laptop", "hearing", "catalogue"):
+    for crate in ENDS:
         for name in PUBLIC.findall((root / "crates" / crate / "src/lib.rt").read_text()):
             yield f"{crate}::{name}"
 

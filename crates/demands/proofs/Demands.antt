@@ -2,9 +2,9 @@
 -- one that its definition gives, for all arguments: it has no `requires`, and it finishes (docs/PROMISES.md).
 use mathlib.Core.Path.{_≡_}
 use mathlib.Core.Bool.{true, false}
-use mathlib.Core.List.{List, _++_}
+use mathlib.Core.List.{List, [], _++_}
 use Prim.Native.Nat.{ℕ, _+_, _*_, _/_, _^_, _<_, _≤_}
-use lib.ListN.{length, take, replicate}
+use lib.ListN.{length, getD, take, replicate}
 use Rattle.laws.specs.Bounded.{Below}
 use Rattle.messages.specs.Layout.{Message, Representable, messageBytes, withOurVersion}
 use Rattle.messages.specs.Reading.{accepted, readOutcome}
@@ -24,23 +24,33 @@ use Rattle.dock.specs.declared.Standing.the-variants.{Ready}
 use Rattle.dock.proofs.Laws.{refusal-leaves as Dock·refusal-leaves}
 use Rattle.dock.proofs.Laws.{dock-pages}
 use Rattle.laptop.specs.State.{Memory, freshLaptop, identityRequest}
+use Rattle.owner.specs.Owner.{anyEntered}
+use Rattle.laptop.specs.declared.Candidate.the-variants.{Absent}
 use Rattle.laptop.specs.declared.Laptop.{Laptop}
-use Rattle.laptop.specs.declared.Wait.the-variants.{Answer}
-use Rattle.laptop_laws.specs.Done.{Call, done}
+use Rattle.laptop.specs.declared.Wait.the-variants.{Nothing, Answer}
+use Rattle.laptop_laws.specs.Done.{Call, done, keptAfter}
 use Rattle.laptop_laws.specs.Refusing.{RefusedAs}
-use Rattle.laptop_laws.specs.WellFormed.{Lent}
+use Rattle.laptop_laws.specs.WellFormed.{Lent, WellFormed}
+use Rattle.laptop_laws.proofs.Laws.{keeps}
 use Rattle.laptop_laws.proofs.Leaves.{refusal-leaves}
 use Rattle.laptop_laws.proofs.Refusing.{refusal-state}
 use Rattle.catalogue.specs.Bytes.{HeldCatalogue, CatalogueWritten}
 use Rattle.catalogue.specs.declared.Bytes.{Bytes}
 use Rattle.catalogue.proofs.Laws.{refused-leaves}
-use Rattle.link.specs.Cases.{cases, caseL, runs, given, said}
-use Rattle.link.specs.Demand.{Meets, AtRest, Begins, OldOrWhole, Replaces, Counts, EndsBy, NeverBad, RequestTaken}
-use Rattle.link.specs.Joined.{Way, gone, System, Event, calls}
+use Rattle.link.specs.Cases.{cases, caseL, given, said}
+use Rattle.link.specs.Demand.{Meets, AtRest, Begins, apart, OldOrWhole, Lowers, Replaces, Counts, Raises, EndsBy, NeverBad, RequestTaken}
+use Rattle.link.specs.Exchanges.{HasAll, LossFree, NoDeadEnd}
+use Rattle.link.specs.Freedoms.{runs, differing}
+use Rattle.link.specs.Joined.{System, Event, calls}
 use Rattle.link.specs.Link.{step, run}
+use Rattle.link.specs.Needed.{needed, received, inAll}
 use Rattle.link.proofs.Cases.{cases-hold}
-use Rattle.link.proofs.Premises.{loaded-meets, fresh-rests}
-use Rattle.link.proofs.Laws.{begins-with, old-or-whole, replaced-then, pages-counted, ends-only-by, never-bad-there, request-taken}
+use Rattle.link.proofs.Freedoms.{runs-hold}
+use Rattle.unharmed.proofs.Premises.{loaded-meets, loaded-has-all, rests-after}
+use Rattle.unharmed.proofs.Laws.{begins-with, old-or-whole, never-bad-there, request-taken}
+use Rattle.progress.proofs.DeadEnd.{no-dead-end}
+use Rattle.progress.proofs.LossFree.{loss-free}
+use Rattle.progress.proofs.Laws.{in-all, lowered-by-one, raised-by, replaced-at-zero, pages-counted, ends-only-by}
 
 -- DEMAND 1. The laptop: a refusal changes no lent byte, whatever the call and whatever the state,
 pub laptop-refusal-leaves : (c : Call) (l : Laptop) (m : Memory) (out : List ℕ) → (done c l m out .step .refusal ≡ 0 → ⊥) →
@@ -86,45 +96,90 @@ pub last-page-taken : (list : List ℕ) (p : ℕ) → Below (2 ^ 16) list → so
     (take (p * 12) list ++ readOff (halves (page list p)) ≡ list)
 last-page-taken = take-last
 
--- 01's cases 1 to 12 and Case L give what 01 says, and so do runs over the link.
-pub every-case : (given cases ≡ said cases) × (given caseL ≡ said caseL) × (given runs ≡ said runs)
+-- 01's cases 1 to 12 and Case L give what 01 says,
+pub every-case : (given cases ≡ said cases) × (given caseL ≡ said caseL)
 every-case = cases-hold
+
+-- and so do runs over the link, for each sentence of 01's section on it: none of them gives another list than it says.
+pub every-run : differing runs ≡ []
+every-run = runs-hold
 
 -- DEMAND 3. It begins when, of a laptop and a dock at rest, a call sends Discover Identity.
 pub begins : (modesOf : ℕ → List ℕ) (s : System) → AtRest s → (out : List ℕ) (c : Call) →
     step modesOf (calls c out) s .laptop .wait ≡ Answer identityRequest → Begins (step modesOf (calls c out) s)
 begins = begins-with
 
--- A fresh laptop and a dock that is ready are at rest, and a dock that was loaded has data that meets 01.
-pub at-rest-when-fresh : (m : Memory) (way : Way) (d : Dock) (lost : ℕ) → Lent m → m .entered ≡ replicate 72 0 → d .standing ≡ Ready →
-    AtRest (record { laptop = freshLaptop; memory = m; way = way; fate = gone; dock = d; lost = lost })
-at-rest-when-fresh = fresh-rests
+-- Every call keeps a laptop well-formed, so a laptop that was fresh once is at rest whenever it awaits nothing, whatever it holds by then.
+pub well-formed-after-every-call : (c : Call) (l : Laptop) (m : Memory) (out : List ℕ) → WellFormed l m →
+    WellFormed (done c l m out .step .laptop) (done c l m out .after)
+well-formed-after-every-call = keeps
 
+pub at-rest-after-any-calls : (history : List (Call × List ℕ)) (m : Memory) (d : Dock) → Lent m → m .entered ≡ replicate 72 0 → d .standing ≡ Ready →
+    keptAfter history (record { laptop = freshLaptop; memory = m }) .laptop .wait ≡ Nothing →
+    AtRest (apart (keptAfter history (record { laptop = freshLaptop; memory = m })) d)
+at-rest-after-any-calls = rests-after
+
+-- A dock that was loaded has data that meets 01, and all that is asked where each SVID has 1 to 6 modes.
 pub meets-when-loaded : (modesOf : ℕ → List ℕ) (identity svids : List ℕ) → goodData identity svids ≡ true → Below (2 ^ 16) svids → Below (2 ^ 32) identity →
     ((svid : ℕ) → Below (2 ^ 32) (modesOf svid)) → Meets modesOf (loaded identity svids)
 meets-when-loaded = loaded-meets
 
+pub all-there-when-loaded : (modesOf : ℕ → List ℕ) (identity svids : List ℕ) → goodData identity svids ≡ true →
+    ((i : ℕ) → i < length svids → 1 ≤ length (modesOf (getD svids i 0))) → ((i : ℕ) → i < length svids → length (modesOf (getD svids i 0)) ≤ 6) →
+    HasAll modesOf (loaded identity svids)
+all-there-when-loaded = loaded-has-all
+
+-- THE REPLACEMENT HAPPENS. From rest, with no candidate and no mode entered, where nothing is lost: so many exchanges as the gathering needs answers end
+-- with the dock's whole catalogue; up to the last arrival the old one is held, to the word; the pages are n / 12 + 1.
+pub whole-when-nothing-is-lost : (modesOf : ℕ → List ℕ) (s : System) → Meets modesOf (s .dock) → HasAll modesOf (s .dock) → AtRest s →
+    s .laptop .candidate ≡ Absent → anyEntered (s .memory .entered) ≡ false → (out : List ℕ) → 28 ≤ length out → LossFree modesOf s out
+whole-when-nothing-is-lost = loss-free
+
+-- A gathering of n SVIDs needs 1 + (n / 12 + 1) + n answers in all, and 2 for an empty list.
+pub answers-needed : (modesOf : ℕ → List ℕ) (start : System) → Meets modesOf (start .dock) → needed modesOf (start .dock) [] ≡ inAll (length (listed (start .dock)))
+answers-needed = in-all
+
 module _ (modesOf : ℕ → List ℕ) (start : System) (meets : Meets modesOf (start .dock)) (begun : Begins start) (events : List Event) where
+  -- where a run has led, and what has come in its gathering
+  abbrev there : System
+  there = run modesOf events start
+
+  abbrev came : List Message
+  came = received modesOf events start []
+
   -- From then on, after any run of events, the laptop holds its old catalogue to the word, or the dock's whole one in order.
-  pub holds-old-or-whole : OldOrWhole modesOf start (run modesOf events start)
+  pub holds-old-or-whole : OldOrWhole modesOf start there
   holds-old-or-whole = old-or-whole modesOf start meets begun events
 
-  -- The dock's replaces it with the last answer needed, and at no other event does what is held change.
-  pub replaced-by-the-last-answer : (e : Event) → Replaces modesOf start e (run modesOf events start)
-  replaced-by-the-last-answer = replaced-then modesOf start meets begun events
+  -- An awaited answer that is not BUSY and is no page that came before lowers the number of answers still needed by exactly 1; nothing else does.
+  pub lowered-by-a-new-answer : (e : Event) → Lowers modesOf (start .dock) e there came
+  lowered-by-a-new-answer = lowered-by-one modesOf start meets begun events
+
+  -- Identity, once all have come, and the ends of 01 raise it again.
+  pub raised-by-identity-or-an-end : (e : Event) → Raises modesOf (start .dock) e there came
+  raised-by-identity-or-an-end = raised-by modesOf start meets begun events
+
+  -- The dock's replaces what is held exactly when the number comes to 0, with the last answer needed, and at no other event does what is held change.
+  pub replaced-by-the-last-answer : (e : Event) → Replaces modesOf (start .dock) e there came
+  replaced-by-the-last-answer = replaced-at-zero modesOf start meets begun events
 
   -- In a gathering that has completed its list of n SVIDs the pages are n / 12 + 1 and the confirmations lost on pages before the last.
-  pub pages-add-up : Counts start (run modesOf events start)
+  pub pages-add-up : Counts modesOf (start .dock) there came
   pages-add-up = pages-counted modesOf start meets begun events
 
   -- A gathering ends unfinished only by drop, start over, a late page with nothing awaited, or 14.
-  pub ends-unfinished-only-by : (e : Event) → EndsBy modesOf e (run modesOf events start)
+  pub ends-unfinished-only-by : (e : Event) → EndsBy modesOf (start .dock) e there came
   ends-unfinished-only-by = ends-only-by modesOf start meets begun events
 
+  -- No dead end: with no mode entered, a wait that still stands can be ended, and a further run leads to the dock's whole catalogue.
+  pub never-a-dead-end : HasAll modesOf (start .dock) → (out : List ℕ) → 28 ≤ length out → anyEntered (there .memory .entered) ≡ false →
+      NoDeadEnd modesOf (start .dock) there out
+  never-a-dead-end all out room = no-dead-end modesOf start meets all out room begun events
+
   -- What arrives at the laptop is taken, or refused 6 or 14: never 1 to 5, and never 8.
-  pub never-refused-otherwise : (e : Event) → NeverBad e (run modesOf events start)
+  pub never-refused-otherwise : (e : Event) → NeverBad e there
   never-refused-otherwise = never-bad-there modesOf start meets begun events
 
   -- What reaches the dock is never refused.
-  pub requests-taken : RequestTaken (run modesOf events start)
+  pub requests-taken : RequestTaken there
   requests-taken = request-taken modesOf start meets begun events

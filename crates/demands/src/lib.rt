@@ -1,1 +1,1 @@
-// No code: the three demands as theorems (proofs/Demands.antt), and document 01's cases under one claim (specs/Cases.antt, proofs/Cases.antt).
+// No code: the three demands as theorems (proofs/Demands.antt), and how tight the promises are (proofs/Tight.antt).

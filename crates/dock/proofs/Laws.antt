@@ -74,7 +74,7 @@ step-only d decision out s s′ after after′ p p′ = (p .step-is ∙ sym (p�
 abbrev pub pageMessage : List ℕ → Message
 pageMessage objects = reply (record { svid = pdSid; command = svidsCommand; position = 0 }) ack objects
 
-page-shape : (objects : List ℕ) → 1 ≤ length objects → length objects ≤ 6 → wellShaped (pageMessage objects) ≡ true
+pub page-shape : (objects : List ℕ) → 1 ≤ length objects → length objects ≤ 6 → wellShaped (pageMessage objects) ≡ true
 unfolding wellShaped shape fits rowOf countsOf
 page-shape objects l m =
     let least : leb 2 (length objects + 1) ≡ true = le-leb 2 (length objects + 1) (omega arith) in

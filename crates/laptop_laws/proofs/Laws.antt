@@ -1,10 +1,10 @@
 -- What the laptop keeps, by the promises of its calls.
 use mathlib.Core.Path.{_≡_, sym, _∙_}
-use mathlib.Core.List.{List}
+use mathlib.Core.List.{List, [], _∷_}
 use Prim.Native.Nat.{ℕ}
 use lib.ListN.{length, replicate}
 use Rattle.laptop.specs.Calls.{Decision, Stepped}
-use Rattle.laptop_laws.specs.Done.{Call, message, next, startOver, drop, enter, exit, timer, protocolError, done}
+use Rattle.laptop_laws.specs.Done.{Call, message, next, startOver, drop, enter, exit, timer, protocolError, done, Kept, keptAfter}
 use Rattle.laptop.specs.State.{Memory, freshLaptop}
 use Rattle.laptop_laws.specs.WellFormed.{Lent, WellFormed}
 use Rattle.laptop.specs.declared.Laptop.{Laptop}
@@ -27,6 +27,12 @@ keeps protocolError l m out w = step-formed l m w _ (error-keeps l m w (l .wait)
 -- and so is a fresh one
 pub fresh : (m : Memory) → Lent m → m .entered ≡ replicate 72 0 → WellFormed freshLaptop m
 fresh m lent e = fresh-formed m lent e
+
+-- and after any number of calls
+pub keeps-all : (history : List (Call × List ℕ)) (k : Kept) → WellFormed (k .laptop) (k .memory) →
+    WellFormed (keptAfter history k .laptop) (keptAfter history k .memory)
+keeps-all [] k f = f
+keeps-all (c ∷ rest) k f = keeps-all rest _ (keeps (c .0) (k .laptop) (k .memory) (c .1) f)
 
 -- a result that a promise allows is the only one
 pub step-only : (l : Laptop) (decision : Decision) (out : List ℕ) (s s′ : Step) (after after′ : List ℕ) →

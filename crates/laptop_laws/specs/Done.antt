@@ -1,6 +1,6 @@
 -- Every call of the laptop as one definition: what it gives back, what is lent afterwards, and the output buffer.
 use Prim.Native.Nat.{ℕ}
-use mathlib.Core.List.{List}
+use mathlib.Core.List.{List, [], _∷_}
 use lib.ListN.{length}
 use Rattle.messages.specs.Reading.{readOutcome}
 use Rattle.laptop.specs.Calls.{Decision, stepOf, bufferOf}
@@ -43,3 +43,18 @@ done (exit svid position) l m out =
     decided l m out (decideExit l (m .heldSvids) (m .heldModes) (m .entered) (length (m .run)) (length (m .heldRun)) svid position)
 done (timer first last) l m out = decided l m out (decideTimer first last l (l .wait))
 done protocolError l m out = decided l m out (decideError l (l .wait))
+
+-- the laptop and what it is lent
+pub record Kept : Type 0 where
+  pub laptop : Laptop
+  pub memory : Memory
+
+-- after calls, each of which is lent what the last one left, and an output buffer of its own
+abbrev pub keptAfter : List (Call × List ℕ) → Kept → Kept
+keptAfter [] k = k
+keptAfter (c ∷ rest) k =
+    keptAfter rest
+    (record {
+      laptop = done (c .0) (k .laptop) (k .memory) (c .1) .step .laptop;
+      memory = done (c .0) (k .laptop) (k .memory) (c .1) .after;
+    })

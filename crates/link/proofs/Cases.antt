@@ -1,4 +1,4 @@
--- Each of the cases gives what the paper says, and each of the runs over the link what its rules say.
+-- Each of the cases gives what the paper says.
 use mathlib.Core.Path.{_≡_, refl}
 use Rattle.messages.specs.Layout.{bytesOfObject, objectsOf, bytesOf, headOf, headerOf, messageBytes}
 use Rattle.messages.specs.Reading.{readRefusal, messageIn, outcome, readOutcome}
@@ -21,11 +21,11 @@ use Rattle.laptop.specs.State.{counted}
 use Rattle.timers.specs.Timers.{over, decideTimer}
 use Rattle.catalogue.specs.Bytes.{svidBytes, modeBytes, modesBytes, entryBytes, entriesBytes, catalogueBytes, heldBytes}
 use Rattle.link.specs.Link.{wayAfter, called, handedOver, isFair, brought, isUnsure, opens, step, run}
-use Rattle.link.specs.Cases.{dockOf, asked, offer, confirmed, shown, answers, told, after, heldAt, nakAfterPage, counts, cases, line, lines, caseL, seen, ran, runs, given, said}
+use Rattle.link.specs.Cases.{dockOf, asked, offer, confirmed, shown, answers, told, after, heldAt, nakAfterPage, counts, cases, line, lines, caseL, given, said}
 
-pub cases-hold : (given cases ≡ said cases) × (given caseL ≡ said caseL) × (given runs ≡ said runs)
+pub cases-hold : (given cases ≡ said cases) × (given caseL ≡ said caseL)
 unfolding
-    cases line lines caseL runs seen ran dockOf asked offer confirmed shown answers told after heldAt nakAfterPage counts
+    cases line lines caseL dockOf asked offer confirmed shown answers told after heldAt nakAfterPage counts
     bytesOfObject objectsOf bytesOf headOf headerOf messageBytes readRefusal messageIn outcome readOutcome rowOf countsOf fits shape wellShaped writeRefusal written
     isIn soundList paired halves values page isLast readOff sameList isRepeat isFull isEnding allNew adds endingVerdict verdict
     goodIdentity loaded stepOf bufferOf asking sending decideRequest decideMessage givePage giveIdentity giveModes giveOther bare decidePolicy decideAnswer moved decideSent decideFailed
@@ -34,4 +34,4 @@ unfolding
     ownerRefusal anyEntered askingRefusal asksNext decideNext over decideTimer counted
     svidBytes modeBytes modesBytes entryBytes entriesBytes catalogueBytes heldBytes
     wayAfter called handedOver isFair brought isUnsure opens step run
-cases-hold = (refl, refl, refl)
+cases-hold = (refl, refl)

@@ -1,31 +1,28 @@
--- Document 01's cases 1 to 12, run on the definitions of both ends, as one list; and runs over the link, each of which tells some wrong end or
--- wrong link from the right one.
+-- Document 01's cases 1 to 12, run on the definitions of both ends, as one list; and Case L.
 use Prim.Native.Nat.{ℕ, zero, suc, _+_}
 use mathlib.Core.List.{List, [], _∷_, _++_}
-use lib.ListN.{length, take, replicate}
+use lib.ListN.{take, replicate}
 use Rattle.messages.specs.Layout.{ack, nak, messageBytes, bytesOf, objectsOf}
 use Rattle.messages.specs.Reading.{Outcome, accepted, refused, readOutcome}
 use Rattle.messages.specs.Requests.{svidsCommand, modesCommand}
 use Rattle.messages.specs.Table.{pdSid}
-use Rattle.dock.specs.Data.{loaded, withPage}
-use Rattle.dock.specs.Dock.{Decision, stepOf, bufferOf, reply, decideMessage, decideAnswer, decideSent}
+use Rattle.dock.specs.Data.{loaded}
+use Rattle.dock.specs.Dock.{Decision, stepOf, bufferOf, reply}
 use Rattle.dock.specs.declared.Dock.{Dock}
-use Rattle.dock.specs.declared.Policy.the-variants.{Give, Nak}
-use Rattle.dock.specs.declared.Standing.{Standing as Dock·Standing}
-use Rattle.dock.specs.declared.Standing.the-variants.{Ready, Asking, Sending}
+use Rattle.dock.specs.declared.Policy.the-variants.{Give}
 use Rattle.owner.specs.Owner.{discover, requestMessage}
 use Rattle.laptop.specs.State.{Memory, memory, identityRequest, freshLaptop}
-use Rattle.laptop.specs.declared.Candidate.{Candidate}
-use Rattle.laptop.specs.declared.Candidate.the-variants.{Absent, Open, Done as ListDone}
 use Rattle.laptop.specs.declared.Held.{Held}
 use Rattle.laptop.specs.declared.Held.the-variants.{Catalogue as Held·Catalogue}
 use Rattle.laptop.specs.declared.Held.the-variants.{Nothing as Held·Nothing}
 use Rattle.laptop.specs.declared.Laptop.{Laptop}
-use Rattle.laptop_laws.specs.Done.{Call, message, next, timer, Done, done}
+use Rattle.laptop_laws.specs.Done.{Call, message, next, Done}
 use Rattle.laptop_laws.specs.Holding.{holding}
 use Rattle.catalogue.specs.Bytes.{heldBytes}
-use Rattle.link.specs.Demand.{heldIn, heldWords}
-use Rattle.link.specs.Joined.{clear, gone, System, Event, calls, reach, answer, loseAnswer, arrive, sent, failed}
+use Rattle.link.specs.Demand.{heldIn}
+use Rattle.link.specs.Exchanges.{exchangeWith}
+use Rattle.link.specs.Ends.{laptopDoes, dockHears, dockAnswers, dockSent}
+use Rattle.link.specs.Joined.{clear, gone, System, Event, sent, failed}
 use Rattle.link.specs.Link.{run}
 
 -- the SVIDs 1, 2, 3 .. n
@@ -42,13 +39,13 @@ dockOf n = loaded (1 ∷ 2 ∷ 3 ∷ []) (upFrom 1 n)
 
 -- it is asked for SVIDs, policy gives, and "sent" is heard
 unfoldable pub asked : Dock → Dock
-asked d = stepOf d (decideMessage d (readOutcome (messageBytes (requestMessage (discover pdSid svidsCommand))))) 28 .dock
+asked d = stepOf d (dockHears d (messageBytes (requestMessage (discover pdSid svidsCommand)))) 28 .dock
 
 unfoldable pub offer : Dock → Decision
-offer d = decideAnswer (asked d) (asked d .standing) Give (discover pdSid svidsCommand) []
+offer d = dockAnswers (asked d) Give (discover pdSid svidsCommand) []
 
 unfoldable pub confirmed : Dock → Dock
-confirmed d = stepOf d (decideSent d (d .standing)) 0 .dock
+confirmed d = stepOf d (dockSent d) 0 .dock
 
 unfoldable pub shown : Dock → List ℕ
 shown d = objectsOf (take (stepOf (asked d) (offer d) 28 .length) (bufferOf (offer d) buffer))
@@ -82,7 +79,7 @@ by d = record { laptop = d .step .laptop; memory = d .after; refusal = d .step .
 
 unfoldable pub after : List Call → Standing → Standing
 after [] s = s
-after (c ∷ rest) s = after rest (by (done c (s .laptop) (s .memory) buffer))
+after (c ∷ rest) s = after rest (by (laptopDoes c (s .laptop) (s .memory) buffer))
 
 unfoldable pub heldAt : Standing → List ℕ
 heldAt s = heldBytes (heldIn (holding (s .laptop) (s .memory)))
@@ -100,12 +97,17 @@ listNak = message (messageBytes (reply (discover pdSid svidsCommand) nak []))
 abbrev pub modesAck : ℕ → List ℕ → Call
 modesAck svid objects = message (messageBytes (reply (discover svid modesCommand) ack objects))
 
--- the old catalogue: the identity 1, 2, 3, the SVID 1 and its mode 0x405
+-- the old catalogue: the identity 1, 2, 3, the SVID 0xFF01 with two modes, and the SVID 1 with one
 abbrev pub gathersOld : List Call
-gathersOld = next ∷ identityAck ∷ next ∷ page (0x00010000 ∷ []) ∷ next ∷ modesAck 1 (0x405 ∷ []) ∷ []
+gathersOld =
+    next ∷ identityAck ∷ next ∷ page (0xFF010001 ∷ 0x00000000 ∷ []) ∷ next ∷ modesAck 0xFF01 (0x405 ∷ 0x12345678 ∷ []) ∷ next ∷
+    modesAck 1 (0x406 ∷ []) ∷ []
 
 abbrev pub oldBytes : List ℕ
-oldBytes = 3 ∷ 1 ∷ 0 ∷ 0 ∷ 0 ∷ 2 ∷ 0 ∷ 0 ∷ 0 ∷ 3 ∷ 0 ∷ 0 ∷ 0 ∷ 0x10 ∷ 1 ∷ 0 ∷ 0x20 ∷ 0x05 ∷ 0x04 ∷ 0 ∷ 0 ∷ 0 ∷ []
+oldBytes =
+    3 ∷ 1 ∷ 0 ∷ 0 ∷ 0 ∷ 2 ∷ 0 ∷ 0 ∷ 0 ∷ 3 ∷ 0 ∷ 0 ∷ 0 ∷
+    0x10 ∷ 0x01 ∷ 0xFF ∷ 0x20 ∷ 0x05 ∷ 0x04 ∷ 0 ∷ 0 ∷ 0x20 ∷ 0x78 ∷ 0x56 ∷ 0x34 ∷ 0x12 ∷
+    0x10 ∷ 0x01 ∷ 0x00 ∷ 0x20 ∷ 0x06 ∷ 0x04 ∷ 0 ∷ 0 ∷ 0 ∷ []
 
 abbrev pub fullPage : List ℕ
 fullPage = 0x00010002 ∷ 0x00030004 ∷ 0x00050006 ∷ 0x00070008 ∷ 0x0009000A ∷ 0x000B000C ∷ []
@@ -114,9 +116,9 @@ fullPage = 0x00010002 ∷ 0x00030004 ∷ 0x00050006 ∷ 0x00070008 ∷ 0x0009000
 unfoldable pub nakAfterPage : Standing
 nakAfterPage = after (next ∷ identityAck ∷ next ∷ page fullPage ∷ next ∷ listNak ∷ []) (after gathersOld fresh)
 
--- both ends over the link: an exchange whose answer is confirmed, and one whose answer is not
+-- both ends over the link: an exchange, and what the dock hears of its answer
 abbrev pub exchange : Event → List Event
-exchange heard = calls next buffer ∷ reach buffer ∷ answer Give buffer ∷ arrive ∷ heard ∷ []
+exchange heard = exchangeWith heard buffer
 
 abbrev pub oneMode : ℕ → List ℕ
 oneMode svid = svid ∷ []
@@ -169,7 +171,7 @@ line d =
 
 unfoldable pub lines : List Call → Standing → List (List ℕ)
 lines [] s = heldAt s ∷ []
-lines (c ∷ rest) s = line (done c (s .laptop) (s .memory) buffer) ++ lines rest (by (done c (s .laptop) (s .memory) buffer))
+lines (c ∷ rest) s = line (laptopDoes c (s .laptop) (s .memory) buffer) ++ lines rest (by (laptopDoes c (s .laptop) (s .memory) buffer))
 
 abbrev pub bytesL : List ℕ
 bytesL = 3 ∷ 1 ∷ 0 ∷ 0 ∷ 0 ∷ 2 ∷ 0 ∷ 0 ∷ 0 ∷ 3 ∷ 0 ∷ 0 ∷ 0 ∷ 0x10 ∷ 0x01 ∷ 0xFF ∷ 0x20 ∷ 0x05 ∷ 0x04 ∷ 0 ∷ 0 ∷ 0 ∷ []
@@ -185,64 +187,6 @@ caseL =
     (0 ∷ []) ∷ [] ∷ (1 ∷ []) ∷ [] ∷
     (0 ∷ []) ∷ (0xFF01A003 ∷ []) ∷ (1 ∷ []) ∷ [] ∷
     (0 ∷ []) ∷ [] ∷ (1 ∷ []) ∷ (1 ∷ []) ∷ bytesL ∷ []) ∷ []
-
--- what is seen of a system: the candidate (0 none, 100 open, 200 done, and its SVIDs), the pages counted, the confirmations lost, the dock's
--- page and whether it is ready, asking or sending (0, 1, 2), and the bytes of what is held
-abbrev pub candidateNumber : Candidate → ℕ → ℕ
-candidateNumber Absent n = 0
-candidateNumber Open n = 100 + n
-candidateNumber ListDone n = 200 + n
-
-abbrev pub dockNumber : Dock·Standing → ℕ
-dockNumber Ready = 0
-dockNumber (Asking r) = 1
-dockNumber (Sending isPage) = 2
-
-unfoldable pub seen : System → List ℕ
-seen s =
-    candidateNumber (s .laptop .candidate) (s .laptop .gathered .count) ∷ s .laptop .pages ∷ s .lost ∷ s .dock .page ∷ dockNumber (s .dock .standing) ∷
-    length (heldBytes (heldIn (heldWords s))) ∷ []
-
-abbrev pub times : ℕ → List Event → List Event
-times zero events = []
-times (suc n) events = events ++ times n events
-
--- from a laptop that holds nothing, and a dock of 13 SVIDs at rest at page 1
-unfoldable pub ran : List Event → List ℕ
-ran events = seen (run oneMode events (record { laptop = freshLaptop; memory = emptyMemory; way = clear; fate = gone; dock = withPage 1 (dockOf 13); lost = 0 }))
-
-abbrev pub asksAndGives : List Event
-asksAndGives = calls next buffer ∷ reach buffer ∷ answer Give buffer ∷ []
-
-abbrev pub timesOut : Event
-timesOut = calls (timer 1 3) []
-
--- all 13 SVIDs with one mode each take 13 + 13 * 8 + 1 bytes
-unfoldable pub runs : List Case
-runs =
-    -- nothing is lost: two pages, the whole catalogue; then again, with the old one held meanwhile
-    case (ran (exchange sent ++ times 2 (exchange sent)) ∷ ran (times 16 (exchange sent)) ∷ ran (times 18 (exchange sent)) ∷ [])
-    ((213 ∷ 2 ∷ 0 ∷ 1 ∷ 0 ∷ 0 ∷ []) ∷ (0 ∷ 2 ∷ 0 ∷ 1 ∷ 0 ∷ 118 ∷ []) ∷ (112 ∷ 1 ∷ 0 ∷ 1 ∷ 0 ∷ 118 ∷ []) ∷ []) ∷
-    -- the first page is unconfirmed once, by "failed" or since nothing is heard: it comes again
-    case (ran (exchange sent ++ exchange failed ++ exchange sent) ∷ ran (exchange sent ++ asksAndGives ++ arrive ∷ exchange sent) ∷ [])
-    ((112 ∷ 2 ∷ 1 ∷ 1 ∷ 0 ∷ 0 ∷ []) ∷ (112 ∷ 2 ∷ 1 ∷ 1 ∷ 0 ∷ 0 ∷ []) ∷ []) ∷
-    -- a page is handed over and not confirmed: the dock's page stays
-    case (ran (exchange sent ++ asksAndGives) ∷ []) ((100 ∷ 0 ∷ 0 ∷ 0 ∷ 2 ∷ 0 ∷ []) ∷ []) ∷
-    -- a late page with nothing awaited drops the candidate
-    case (ran (exchange sent ++ asksAndGives ++ timesOut ∷ arrive ∷ []) ∷ []) ((0 ∷ 0 ∷ 0 ∷ 0 ∷ 2 ∷ 0 ∷ []) ∷ []) ∷
-    -- an answer that is lost is not confirmed
-    case (ran (exchange sent ++ asksAndGives ++ loseAnswer ∷ sent ∷ []) ∷ []) ((100 ∷ 0 ∷ 0 ∷ 0 ∷ 2 ∷ 0 ∷ []) ∷ []) ∷
-    -- an answer does not arrive after a later request has reached the dock
-    case (ran (exchange sent ++ asksAndGives ++ timesOut ∷ calls next buffer ∷ reach buffer ∷ arrive ∷ []) ∷ []) ((100 ∷ 0 ∷ 0 ∷ 0 ∷ 1 ∷ 0 ∷ []) ∷ []) ∷
-    -- a request whose wait has ended does not reach the dock
-    case (ran (calls next buffer ∷ timesOut ∷ reach buffer ∷ []) ∷ []) ((0 ∷ 0 ∷ 0 ∷ 1 ∷ 0 ∷ 0 ∷ []) ∷ []) ∷
-    -- a page that is confirmed before it arrives is not lost, and no later request reaches the dock before it
-    case
-    (ran (exchange sent ++ asksAndGives ++ sent ∷ loseAnswer ∷ arrive ∷ []) ∷
-    ran (exchange sent ++ asksAndGives ++ sent ∷ timesOut ∷ calls next buffer ∷ reach buffer ∷ []) ∷ [])
-    ((112 ∷ 1 ∷ 0 ∷ 1 ∷ 0 ∷ 0 ∷ []) ∷ (100 ∷ 0 ∷ 0 ∷ 1 ∷ 0 ∷ 0 ∷ []) ∷ []) ∷
-    -- policy does not say NAK to a list
-    case (ran (exchange sent ++ calls next buffer ∷ reach buffer ∷ answer Nak buffer ∷ []) ∷ []) ((100 ∷ 0 ∷ 0 ∷ 0 ∷ 1 ∷ 0 ∷ []) ∷ []) ∷ []
 
 abbrev pub given : List Case → List (List (List ℕ))
 given [] = []

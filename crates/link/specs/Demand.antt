@@ -2,36 +2,33 @@
 use mathlib.Core.Logic.{_⊎_}
 use mathlib.Core.Option.{Option, none, some}
 use mathlib.Core.Path.{_≡_}
-use Prim.Native.Nat.{ℕ, _+_, _/_, _^_}
-use mathlib.Core.Bool.{Bool, true, false, _&&_, _||_}
+use Prim.Native.Nat.{ℕ, _+_, _/_, _^_, _<_, _≤_}
+use mathlib.Core.Bool.{true, false}
 use mathlib.Core.List.{List, [], _∷_}
-use lib.Dec.{eqb}
 use lib.ListN.{length, take}
 use Rattle.laws.specs.Bounded.{Below}
-use Rattle.messages.specs.Layout.{ack, nak, Message, messageBytes}
-use Rattle.messages.specs.Reading.{Outcome, accepted, refused, readOutcome}
-use Rattle.messages.specs.Requests.{svidsCommand, modesCommand}
-use Rattle.messages.specs.declared.Head.{Head}
+use Rattle.messages.specs.Layout.{Message, messageBytes}
+use Rattle.messages.specs.Reading.{accepted, readOutcome}
 use Rattle.pages.specs.Pages.{perPage}
 use Rattle.dock.specs.Data.{listed}
-use Rattle.dock.specs.Dock.{stepOf, decideMessage}
+use Rattle.dock.specs.Dock.{stepOf}
 use Rattle.dock.specs.Sound.{Sound}
 use Rattle.dock.specs.declared.Dock.{Dock}
 use Rattle.dock.specs.declared.Standing.the-variants.{Ready}
 use Rattle.catalogue.specs.Bytes.{HeldCatalogue, heldCatalogue}
 use Rattle.catalogue.specs.Bytes.{holding as holds}
 use Rattle.laptop.specs.Catalogue.{Entry, Catalogue}
-use Rattle.hearing.specs.Hearing.{fits, isLatePage}
+use Rattle.hearing.specs.Hearing.{isLatePage}
 use Rattle.owner.specs.Owner.{isAbsent, requestMessage}
 use Rattle.laptop.specs.State.{gatheredList, identityRequest}
-use Rattle.laptop.specs.declared.Candidate.the-variants.{Done}
-use Rattle.laptop.specs.declared.Laptop.{Laptop}
 use Rattle.laptop.specs.declared.Wait.the-variants.{Nothing, Answer}
-use Rattle.laptop_laws.specs.Done.{startOver, drop, message, done}
+use Rattle.laptop_laws.specs.Done.{startOver, drop, message, Kept}
 use Rattle.laptop_laws.specs.Holding.{Holding, holding}
-use Rattle.laptop_laws.specs.WellFormed.{WellFormed}
-use Rattle.link.specs.Joined.{request, Fate, gone, coming, confirmed, came, System, Event, calls, loseRequest, reach, answer, loseAnswer, arrive, sent, failed}
+use Rattle.laptop_laws.specs.WellFormed.{awaitsIdentity, WellFormed}
+use Rattle.link.specs.Ends.{laptopDoes, dockHears}
+use Rattle.link.specs.Joined.{clear, request, gone, System, Event, calls, arrive}
 use Rattle.link.specs.Link.{step}
+use Rattle.link.specs.Needed.{needed, pagesIn, isListing, onWay, arriving, receivedBy, bringsNew}
 
 -- fixed data that meets 01: a sound dock, whose numbers are as wide as messages have them. That each listed SVID has modes is not asked: the
 -- dock refuses policy's answer otherwise
@@ -56,6 +53,10 @@ pub record AtRest (s : System) : Type 0 where
   pub nothing-comes : s .fate ≡ gone
   pub dock-ready : s .dock .standing ≡ Ready
 
+-- a laptop and a dock with nothing on its way between them
+abbrev pub apart : Kept → Dock → System
+apart k d = record { laptop = k .laptop; memory = k .memory; way = clear; fate = gone; dock = d; lost = 0 }
+
 -- the dock's whole catalogue, in order
 abbrev pub entriesOf : (ℕ → List ℕ) → List ℕ → List Entry
 entriesOf modesOf [] = []
@@ -78,57 +79,38 @@ Holds catalogue s = heldIn (heldWords s) ≡ holds catalogue
 abbrev pub OldOrWhole : (ℕ → List ℕ) → System → System → Type 0
 OldOrWhole modesOf start s = (heldWords s ≡ heldWords start) ⊎ Holds (whole modesOf (start .dock)) s
 
--- the bytes with which an event comes to the laptop
-abbrev pub onWay : Fate → Option (List ℕ)
-onWay gone = none
-onWay (coming bytes) = some bytes
-onWay (confirmed bytes) = some bytes
-onWay (came b) = none
+-- Of the number of answers that the gathering still needs, where `got` has come in it:
+module _ (modesOf : ℕ → List ℕ) (d : Dock) where
+  abbrev pub now : List Message → ℕ
+  now got = needed modesOf d got
 
-abbrev pub arriving : Event → Fate → Option (List ℕ)
-arriving (calls c out) fate = none
-arriving loseRequest fate = none
-arriving (reach out) fate = none
-arriving (answer policy out) fate = none
-arriving loseAnswer fate = none
-arriving arrive fate = onWay fate
-arriving sent fate = none
-arriving failed fate = none
+  abbrev pub thereafter : Event → System → List Message → ℕ
+  thereafter e s got = needed modesOf d (receivedBy e s got)
 
--- the last answer needed: the awaited ACK to the last Modes, or the awaited NAK to SVIDs of an empty list
-unfoldable pub isLastHead : Laptop → Head → Bool
-isLastHead l h =
-    fits (l .wait) h && ((eqb (h .command) modesCommand && (eqb (h .kind) ack && eqb (l .filled + 1) (l .gathered .count))) ||
-    (eqb (h .command) svidsCommand && eqb (h .kind) nak))
+  -- a new answer lowers it by exactly 1, and nothing else lowers it
+  abbrev pub Lowers : Event → System → List Message → Type 0
+  Lowers e s got =
+      (bringsNew e s got ≡ true → thereafter e s got + 1 ≡ now got) ×
+      (bringsNew e s got ≡ false → now got ≤ thereafter e s got)
 
-unfoldable pub isLastOutcome : Laptop → Outcome → Bool
-isLastOutcome l (refused number) = false
-isLastOutcome l (accepted m) = isLastHead l (m .head)
+  -- the dock's whole catalogue replaces what is held when it comes to 0, and at no other event does what is held change
+  abbrev pub Replaces : Event → System → List Message → Type 0
+  Replaces e s got =
+      (0 < now got → thereafter e s got ≡ 0 → Holds (whole modesOf d) (step modesOf e s)) ×
+      ((now got ≡ 0) ⊎ (0 < thereafter e s got) → heldWords (step modesOf e s) ≡ heldWords s)
 
-abbrev pub isLastOf : Laptop → Option (List ℕ) → Bool
-isLastOf l none = false
-isLastOf l (some bytes) = isLastOutcome l (readOutcome bytes)
-
-abbrev pub isLastAnswer : Event → System → Bool
-isLastAnswer e s = isLastOf (s .laptop) (arriving e (s .fate))
-
--- the dock's catalogue replaces what is held with the last answer needed, and at no other event does what is held change
-abbrev pub Replaces : (ℕ → List ℕ) → System → Event → System → Type 0
-Replaces modesOf start e s =
-    (isLastAnswer e s ≡ true → Holds (whole modesOf (start .dock)) (step modesOf e s)) ×
-    (isLastAnswer e s ≡ false → heldWords (step modesOf e s) ≡ heldWords s)
-
--- in a gathering that has completed its list of n SVIDs, the pages counted are n / 12, rounded down, plus 1, plus the confirmations lost
-abbrev pub Counts : System → System → Type 0
-Counts start s =
-    s .laptop .candidate ≡ Done →
-    (gatheredList (s .laptop) (s .memory .svids) ≡ listed (start .dock)) ×
-    (s .laptop .pages ≡ length (listed (start .dock)) / perPage + 1 + s .lost)
+  -- when all pages have come and not yet all modes, the list is the dock's, the laptop has counted the pages that came, and they are n / 12, rounded
+  -- down, plus 1, plus the confirmations lost on pages before the last
+  abbrev pub Counts : System → List Message → Type 0
+  Counts s got =
+      isListing (listed d) got ≡ false → 0 < now got →
+      (gatheredList (s .laptop) (s .memory .svids) ≡ listed d) × (s .laptop .pages ≡ pagesIn got) ×
+      (pagesIn got ≡ length (listed d) / perPage + 1 + s .lost)
 
 -- how the laptop answers what arrives
 abbrev pub refusalOf : System → Option (List ℕ) → ℕ
 refusalOf s none = 0
-refusalOf s (some bytes) = done (message bytes) (s .laptop) (s .memory) [] .step .refusal
+refusalOf s (some bytes) = laptopDoes (message bytes) (s .laptop) (s .memory) [] .step .refusal
 
 -- the ends of a gathering that is not finished: drop, start over, a late page with nothing awaited, or two hundred pages
 pub data Ending (s : System) : Event → Type 0 where
@@ -138,10 +120,17 @@ pub data Ending (s : System) : Event → Type 0 where
       Ending s arrive
   by-fourteen : refusalOf s (onWay (s .fate)) ≡ 14 → Ending s arrive
 
-abbrev pub EndsBy : (ℕ → List ℕ) → Event → System → Type 0
-EndsBy modesOf e s =
+-- what raises the number again: the Identity of a new gathering once the last is finished, and these ends
+abbrev pub Raises : (ℕ → List ℕ) → Dock → Event → System → List Message → Type 0
+Raises modesOf d e s got =
+    now modesOf d got < thereafter modesOf d e s got →
+    ((now modesOf d got ≡ 0) × (awaitsIdentity (step modesOf e s .laptop .wait) ≡ true)) ⊎ Ending s e
+
+-- a candidate is given up only where the number has come to 0, or by these ends
+abbrev pub EndsBy : (ℕ → List ℕ) → Dock → Event → System → List Message → Type 0
+EndsBy modesOf d e s got =
     isAbsent (s .laptop .candidate) ≡ false → isAbsent (step modesOf e s .laptop .candidate) ≡ true →
-    (isLastAnswer e s ≡ true) ⊎ Ending s e
+    (thereafter modesOf d e s got ≡ 0) ⊎ Ending s e
 
 -- what arrives at the laptop is taken, or refused 6 or 14; in particular never 1 to 5, and never 8
 abbrev pub NeverBad : Event → System → Type 0
@@ -151,4 +140,4 @@ NeverBad e s =
 -- a request that reaches the dock is never refused
 abbrev pub RequestTaken : System → Type 0
 RequestTaken s =
-    (bytes : List ℕ) (room : ℕ) → s .way ≡ request bytes → stepOf (s .dock) (decideMessage (s .dock) (readOutcome bytes)) room .refusal ≡ 0
+    (bytes : List ℕ) (room : ℕ) → s .way ≡ request bytes → stepOf (s .dock) (dockHears (s .dock) bytes) room .refusal ≡ 0

@@ -4,12 +4,11 @@ use mathlib.Core.Bool.{Bool, true, false, cond, not, _&&_}
 use mathlib.Core.List.{List, [], _∷_}
 use lib.Dec.{ltb, eqb}
 use lib.ListN.{length, take}
-use Rattle.messages.specs.Reading.{readOutcome}
 use Rattle.messages.specs.Requests.{svidsCommand, modesCommand}
 use Rattle.messages.specs.declared.request.Request.{Request}
 use Rattle.pages.specs.Pages.{isLast}
 use Rattle.dock.specs.Data.{listed}
-use Rattle.dock.specs.Dock.{Decision, stepOf, bufferOf, isEmpty, decideMessage, decideAnswer, decideSent, decideFailed}
+use Rattle.dock.specs.Dock.{Decision, stepOf, bufferOf, isEmpty}
 use Rattle.dock.specs.declared.Dock.{Dock}
 use Rattle.dock.specs.declared.Policy.{Policy}
 use Rattle.dock.specs.declared.Policy.the-variants.{Give, Nak, Busy}
@@ -18,8 +17,9 @@ use Rattle.dock.specs.declared.Standing.the-variants.{Ready, Asking, Sending}
 use Rattle.laptop.specs.Calls.{isAwaiting}
 use Rattle.hearing.specs.Hearing.{isOpen}
 use Rattle.laptop.specs.declared.Laptop.{Laptop}
-use Rattle.laptop_laws.specs.Done.{Call, message, next, startOver, drop, enter, exit, timer, protocolError, Done, done}
+use Rattle.laptop_laws.specs.Done.{Call, message, next, startOver, drop, enter, exit, timer, protocolError, Done}
 use Rattle.laptop_laws.specs.WellFormed.{awaitsIdentity}
+use Rattle.link.specs.Ends.{laptopDoes, dockHears, dockAnswers, dockSent, dockFailed}
 use Rattle.link.specs.Joined.{Way, clear, request, Fate, gone, coming, confirmed, came, System, Event, calls, loseRequest, reach, answer, loseAnswer, arrive, sent, failed}
 
 -- a request goes out with a call that sends it; one not yet at the dock when its wait ends is lost
@@ -50,7 +50,7 @@ afterCall d s =
     }
 
 unfoldable pub called : Call → List ℕ → System → System
-called c out s = cond (isMessage c) s (afterCall (done c (s .laptop) (s .memory) out) s)
+called c out s = cond (isMessage c) s (afterCall (laptopDoes c (s .laptop) (s .memory) out) s)
 
 -- a confirmation is lost once it can be heard no more: of a page before the last that was counted
 abbrev pub lostWith : Fate → ℕ → ℕ
@@ -80,10 +80,10 @@ reachedBy out decision s =
 
 abbrev pub reaches : List ℕ → Way → Fate → System → System
 reaches out clear fate s = s
-reaches out (request bytes) gone s = reachedBy out (decideMessage (s .dock) (readOutcome bytes)) s
-reaches out (request bytes) (coming a) s = reachedBy out (decideMessage (s .dock) (readOutcome bytes)) s
+reaches out (request bytes) gone s = reachedBy out (dockHears (s .dock) bytes) s
+reaches out (request bytes) (coming a) s = reachedBy out (dockHears (s .dock) bytes) s
 reaches out (request bytes) (confirmed a) s = s
-reaches out (request bytes) (came b) s = reachedBy out (decideMessage (s .dock) (readOutcome bytes)) s
+reaches out (request bytes) (came b) s = reachedBy out (dockHears (s .dock) bytes) s
 
 -- policy gives or says BUSY, and says NAK only to SVIDs with an empty list
 unfoldable pub isFair : Policy → Request → List ℕ → Bool
@@ -112,7 +112,7 @@ abbrev pub answers : (ℕ → List ℕ) → Policy → List ℕ → Standing →
 answers modesOf policy out Ready s = s
 answers modesOf policy out (Asking r) s =
     cond (isFair policy r (listed (s .dock)))
-    (answeredBy out (decideAnswer (s .dock) (s .dock .standing) policy r (brought modesOf policy r)) s) s
+    (answeredBy out (dockAnswers (s .dock) policy r (brought modesOf policy r)) s) s
 answers modesOf policy out (Sending isPage) s = s
 
 -- the answer arrives: is it counted, and does its page not end the list. Until it is confirmed, or a later request reaches the dock, the dock's
@@ -129,7 +129,7 @@ withFate fate lost s =
     record { laptop = s .laptop; memory = s .memory; way = s .way; fate = fate; dock = s .dock; lost = lost }
 
 abbrev pub arrivedWith : List ℕ → System → Done
-arrivedWith bytes s = done (message bytes) (s .laptop) (s .memory) []
+arrivedWith bytes s = laptopDoes (message bytes) (s .laptop) (s .memory) []
 
 -- an answer that is not confirmed: the dock may still hear of it while it is sending; if it has heard "failed", the confirmation is lost
 abbrev pub fateOnArrival : Standing → Bool → Fate
@@ -164,9 +164,9 @@ hearsSent (Asking r) fate s = s
 hearsSent (Sending isPage) gone s = s
 hearsSent (Sending isPage) (confirmed bytes) s = s
 hearsSent (Sending isPage) (coming bytes) s =
-    withDock (stepOf (s .dock) (decideSent (s .dock) (s .dock .standing)) 0 .dock) (withFate (confirmed bytes) (s .lost) s)
+    withDock (stepOf (s .dock) (dockSent (s .dock)) 0 .dock) (withFate (confirmed bytes) (s .lost) s)
 hearsSent (Sending isPage) (came b) s =
-    withDock (stepOf (s .dock) (decideSent (s .dock) (s .dock .standing)) 0 .dock) (withFate gone (s .lost) s)
+    withDock (stepOf (s .dock) (dockSent (s .dock)) 0 .dock) (withFate gone (s .lost) s)
 
 -- or "failed", of one that has arrived, is on its way or is lost
 abbrev pub fateOnFailure : Fate → Fate
@@ -179,7 +179,7 @@ abbrev pub hearsFailed : Standing → System → System
 hearsFailed Ready s = s
 hearsFailed (Asking r) s = s
 hearsFailed (Sending isPage) s =
-    withDock (stepOf (s .dock) (decideFailed (s .dock) (s .dock .standing)) 0 .dock)
+    withDock (stepOf (s .dock) (dockFailed (s .dock)) 0 .dock)
     (withFate (fateOnFailure (s .fate)) (lostWith (s .fate) (s .lost)) s)
 
 abbrev pub losesRequest : System → System

@@ -1,1 +1,1 @@
-// No code: the laptop end, the link and the dock end joined, and what holds of them in every run (specs/, proofs/).
+// No code: the laptop end, the link and the dock end joined, what demand 3 says of them, and cases and runs that compute (specs/, proofs/).

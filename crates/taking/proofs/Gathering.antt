@@ -20,7 +20,7 @@ use Rattle.pages.proofs.Laws.{page-parts, read-page}
 use Rattle.pages.proofs.Scanning.{sound-no-zero}
 
 -- a list is the same as itself, and as no other
-same-self : (l : List ℕ) → sameList l l ≡ true
+pub same-self : (l : List ℕ) → sameList l l ≡ true
 unfolding sameList
 same-self [] = refl
 same-self (x ∷ l) = rw (eq-eqb x x refl) (same-self l)

@@ -3,8 +3,8 @@
 use second::call::Call;
 use second::laptop::Candidate;
 use second::link_events::checks::{
-    Demand, Observed, CHANGED_EARLY, ENDED_UNFINISHED, NEITHER_OLD_NOR_WHOLE, NOT_PUBLISHED,
-    REFUSED_UNFAIRLY, WRONG_SUM,
+    Demand, Observed, CHANGED_EARLY, ENDED_UNFINISHED, NEITHER_OLD_NOR_WHOLE, NOT_LOWERED,
+    NOT_PUBLISHED, REFUSED_UNFAIRLY, WRONG_SUM,
 };
 use second::link_events::generator::generate;
 use second::link_events::tally::{of_one_stream, Tally};
@@ -141,7 +141,7 @@ fn a_completed_gathering_has_its_pages_and_the_confirmations_lost() {
     let event = Event::AnswerArrives;
     for (pages, lost, expected) in [
         (1, 0, Ok(())),
-        (2, 1, Ok(())),
+        (2, 1, Err(WRONG_SUM)),
         (0, 0, Err(WRONG_SUM)),
         (2, 0, Err(WRONG_SUM)),
         (1, 1, Err(WRONG_SUM)),
@@ -151,6 +151,50 @@ fn a_completed_gathering_has_its_pages_and_the_confirmations_lost() {
         });
         assert_eq!(result, expected);
     }
+}
+
+#[test]
+fn the_number_still_needed_is_told_from_the_dock() {
+    for (count, needed) in [(0, 2), (1, 3), (11, 13), (12, 15), (13, 16), (72, 80)] {
+        let exchanges = |k| after(begin(count, true), k, &[]).1.still_needed();
+        for done in 0..needed {
+            assert_eq!(exchanges(done), needed - done);
+        }
+        assert_eq!(exchanges(needed), 0);
+        assert_eq!(exchanges(needed + 1), needed - 1);
+    }
+}
+
+#[test]
+fn a_page_that_comes_again_and_busy_lower_nothing() {
+    let unconfirmed = [&EXCHANGE[..4], &[Event::Failed]].concat();
+    let busy = [
+        NEXT,
+        Event::RequestReaches,
+        Event::Busy,
+        Event::AnswerArrives,
+    ];
+    let (_, demand) = after(begin(13, true), 1, &unconfirmed);
+    assert_eq!(demand.still_needed(), 14);
+    let again = [&unconfirmed[..], &EXCHANGE].concat();
+    let (_, demand) = after(begin(13, true), 1, &again);
+    assert_eq!(demand.still_needed(), 14);
+    let (_, demand) = after(begin(13, true), 1, &busy);
+    assert_eq!(demand.still_needed(), 15);
+    for call in [Call::Drop, Call::StartOver] {
+        let (_, demand) = after(begin(13, true), 5, &[Event::Call(call)]);
+        assert_eq!(demand.still_needed(), 16);
+    }
+}
+
+#[test]
+fn a_laptop_that_asks_again_for_what_has_come_gets_nowhere() {
+    let (mut system, mut demand) = after(begin(13, true), 0, &EXCHANGE[..3]);
+    let stuck = Observed::of(&system);
+    let outcome = system.take(&Event::AnswerArrives);
+    let event = Event::AnswerArrives;
+    assert_eq!(demand.check(&event, outcome, stuck.clone()), Ok(()));
+    assert_eq!(demand.check(&event, outcome, stuck), Err(NOT_LOWERED));
 }
 
 #[test]

@@ -1,10 +1,12 @@
-//! Demand 3, checked at every event: what is held is the old catalogue or the dock's whole one, it
-//! changes with the last answer needed and then only, and the pages are as many as they must be.
+//! Demand 3, checked at every event: what is held is the old catalogue or the dock's whole one; each
+//! new answer lowers the number still needed by 1, and what is held changes when it comes to 0 and
+//! then only; and the pages are as many as they must be.
 
+use super::needed::Needed;
 use super::{Event, Outcome, System};
 use crate::call::Call;
 use crate::laptop::Candidate;
-use crate::messages::{read, Request, ACK, MODES, NAK, SVIDS};
+use crate::messages::{read, Request, IDENTITY};
 use crate::pages::PAGE_SVIDS;
 use crate::refusals::{ACCEPTED, NOT_AWAITED, NOT_WHOLE_OBJECTS, NO_END, VOIDED, WRONG_SHAPE};
 
@@ -12,6 +14,8 @@ pub const REFUSED_UNFAIRLY: &str = "a fair message was refused 1 to 5, or 8";
 pub const NEITHER_OLD_NOR_WHOLE: &str = "what is held is neither the old catalogue nor the whole";
 pub const NOT_PUBLISHED: &str = "the last answer needed did not make the whole catalogue held";
 pub const CHANGED_EARLY: &str = "what is held changed without the last answer needed";
+pub const NOT_LOWERED: &str = "a new answer did not lower the number still needed by 1";
+pub const LOWERED: &str = "the number still needed was lowered without a new answer";
 pub const WRONG_SUM: &str = "the page count is not pages and confirmations lost";
 pub const ENDED_UNFINISHED: &str = "a gathering ended unfinished without a reason";
 
@@ -32,6 +36,7 @@ pub struct Demand {
     old: Option<Vec<u8>>,
     whole: Vec<u8>,
     svid_count: usize,
+    needed: Needed,
     last: Observed,
 }
 
@@ -47,20 +52,9 @@ impl Observed {
         }
     }
 
-    /// Whether the answer under way, if it is taken, is the last that the candidate needs.
-    pub fn needs_only_this_answer(&self) -> bool {
-        let answer = self.answer.as_deref().and_then(|bytes| read(bytes).ok());
-        let Some(message) = answer else {
-            return false;
-        };
-        let is_answer = |command, kind| (message.command, message.kind) == (command, kind);
-        match &self.candidate {
-            Candidate::None => false,
-            Candidate::ListOpen(gathered) => gathered.svids.is_empty() && is_answer(SVIDS, NAK),
-            Candidate::ListDone(gathered) => {
-                gathered.mode_counts.len() + 1 == gathered.svids.len() && is_answer(MODES, ACK)
-            }
-        }
+    fn awaits_identity(&self) -> bool {
+        self.awaited
+            .is_some_and(|request| request.command == IDENTITY)
     }
 }
 
@@ -71,8 +65,14 @@ impl Demand {
             old: last.held.clone(),
             whole: system.data().catalogue_bytes(),
             svid_count: system.data().svids.len(),
+            needed: Needed::by(system.data()),
             last,
         }
+    }
+
+    /// How many answers the gathering still needs.
+    pub fn still_needed(&self) -> usize {
+        self.needed.number()
     }
 
     /// The demand on an event that led from what was last observed to `now`, or what breaks it.
@@ -83,18 +83,37 @@ impl Demand {
         now: Observed,
     ) -> Result<(), &'static str> {
         let before = std::mem::replace(&mut self.last, now);
-        let arrives = *event == Event::AnswerArrives;
-        let is_taken = arrives && outcome.refusal == Some(ACCEPTED);
-        let completes = is_taken && before.needs_only_this_answer();
         check_refusal(outcome)?;
+        let was_needed = self.still_needed();
+        let is_new = self.receive(event, outcome, &before);
+        let is_needed = self.still_needed();
+        check_number(was_needed, is_needed, is_new)?;
+        let completes = was_needed > 0 && is_needed == 0;
         self.check_held(&before, completes)?;
-        if completes && self.svid_count > 0 {
-            self.check_sum()?;
-        }
-        if !completes && !may_end_gathering(event, outcome, &before) {
-            self.check_goes_on(&before)?;
+        self.check_sum()?;
+        let anew = was_needed == 0 || completes;
+        if !anew && !may_end_gathering(event, outcome, &before) {
+            self.check_goes_on(&before, is_needed > was_needed)?;
         }
         Ok(())
+    }
+
+    /// Adds what has come with the event, and tells whether it is a new answer.
+    fn receive(&mut self, event: &Event, outcome: Outcome, before: &Observed) -> bool {
+        match event {
+            Event::AnswerArrives => {
+                let answer = before.answer.as_deref().and_then(|bytes| read(bytes).ok());
+                answer.is_some_and(|message| self.needed.arrive(before.awaited, &message))
+            }
+            Event::Call(call) if outcome.refusal == Some(ACCEPTED) => {
+                let goes_out = self.last.awaits_identity() && before.awaited.is_none();
+                if matches!(call, Call::Drop) || goes_out {
+                    self.needed.begin_anew();
+                }
+                false
+            }
+            _ => false,
+        }
     }
 
     fn check_held(&self, before: &Observed, completes: bool) -> Result<(), &'static str> {
@@ -111,17 +130,21 @@ impl Demand {
         }
     }
 
+    /// Once a list of one SVID or more has come whole, up to the next Identity.
     fn check_sum(&self) -> Result<(), &'static str> {
-        let pages = self.svid_count / PAGE_SVIDS + 1;
-        if self.last.page_count != pages + self.last.confirmations_lost {
+        if self.needed.is_listing() || self.svid_count == 0 {
+            return Ok(());
+        }
+        let pages = self.svid_count / PAGE_SVIDS + 1 + self.last.confirmations_lost;
+        if self.last.page_count != pages || self.needed.pages() != pages {
             return Err(WRONG_SUM);
         }
         Ok(())
     }
 
-    fn check_goes_on(&self, before: &Observed) -> Result<(), &'static str> {
+    fn check_goes_on(&self, before: &Observed, is_raised: bool) -> Result<(), &'static str> {
         let ended = self.last.candidate == Candidate::None;
-        if before.candidate != Candidate::None && ended {
+        if is_raised || before.candidate != Candidate::None && ended {
             return Err(ENDED_UNFINISHED);
         }
         Ok(())
@@ -134,6 +157,17 @@ fn check_refusal(outcome: Outcome) -> Result<(), &'static str> {
         Some(NOT_WHOLE_OBJECTS..=WRONG_SHAPE | VOIDED) => Err(REFUSED_UNFAIRLY),
         _ => Ok(()),
     }
+}
+
+/// A new answer lowers the number by exactly 1, and nothing else lowers it.
+fn check_number(was: usize, is: usize, is_new: bool) -> Result<(), &'static str> {
+    if is_new && is + 1 != was {
+        return Err(NOT_LOWERED);
+    }
+    if !is_new && is < was {
+        return Err(LOWERED);
+    }
+    Ok(())
 }
 
 /// Drop, start over, a late page with nothing awaited, and 14.

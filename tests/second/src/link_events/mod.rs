@@ -6,6 +6,7 @@ pub mod checks;
 mod event;
 pub mod generator;
 mod link;
+mod needed;
 mod start;
 mod system;
 pub mod tally;

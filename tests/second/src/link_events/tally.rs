@@ -53,17 +53,22 @@ impl Tally {
                 self.add(LOST_CONFIRMATION);
             }
             match event {
-                Event::AnswerArrives => self.count_arrival(&before, outcome, &now),
+                Event::AnswerArrives => self.count_arrival(&before, outcome),
                 _ => self.count_other(event, outcome, &was),
             }
+            let was_needed = demand.still_needed();
+            let lost = now.confirmations_lost;
             demand.check(event, outcome, now)?;
+            if was_needed > 0 && demand.still_needed() == 0 {
+                self.count_completed(start.data.svids.len(), lost);
+            }
         }
         Ok(())
     }
 
     /// The link is quiet before the first request, so what arrives with nothing awaited, or while a
     /// request is still under way, is late.
-    fn count_arrival(&mut self, system: &System, outcome: Outcome, now: &Observed) {
+    fn count_arrival(&mut self, system: &System, outcome: Outcome) {
         let before = Observed::of(system);
         if outcome.refusal == Some(NOT_AWAITED) && before.awaited.is_none() {
             self.add(LATE_ALONE);
@@ -78,12 +83,13 @@ impl Tally {
         if answer.is_some_and(|message| message.kind == BUSY) {
             self.add(BUSY_TAKEN);
         }
-        if before.needs_only_this_answer() {
-            self.add(COMPLETED);
-            self.counts.add(completed(system.data().svids.len()));
-            if now.confirmations_lost > 0 {
-                self.add(UNCONFIRMED);
-            }
+    }
+
+    fn count_completed(&mut self, svid_count: usize, confirmations_lost: usize) {
+        self.add(COMPLETED);
+        self.counts.add(completed(svid_count));
+        if confirmations_lost > 0 {
+            self.add(UNCONFIRMED);
         }
     }
 

@@ -1,0 +1,28 @@
+-- What each end does, by the definitions that the promises of its calls cite. All that is joined here, and every case, knows the ends by these names.
+use Prim.Native.Nat.{ℕ}
+use mathlib.Core.List.{List}
+use Rattle.messages.specs.Reading.{readOutcome}
+use Rattle.messages.specs.declared.request.Request.{Request}
+use Rattle.dock.specs.Dock.{Decision, decideMessage, decideAnswer, decideSent, decideFailed}
+use Rattle.dock.specs.declared.Dock.{Dock}
+use Rattle.dock.specs.declared.Policy.{Policy}
+use Rattle.laptop.specs.State.{Memory}
+use Rattle.laptop.specs.declared.Laptop.{Laptop}
+use Rattle.laptop_laws.specs.Done.{Call, Done, done}
+
+-- the laptop with a message, an owner's call, a timer or the protocol error
+abbrev pub laptopDoes : Call → Laptop → Memory → List ℕ → Done
+laptopDoes c l m out = done c l m out
+
+-- the dock with a message's bytes, with policy's answer, and with "sent" and "failed"
+abbrev pub dockHears : Dock → List ℕ → Decision
+dockHears d bytes = decideMessage d (readOutcome bytes)
+
+abbrev pub dockAnswers : Dock → Policy → Request → List ℕ → Decision
+dockAnswers d policy r objects = decideAnswer d (d .standing) policy r objects
+
+abbrev pub dockSent : Dock → Decision
+dockSent d = decideSent d (d .standing)
+
+abbrev pub dockFailed : Dock → Decision
+dockFailed d = decideFailed d (d .standing)

@@ -1,0 +1,492 @@
+-- The link is as wide as document 01 has it, and no wider: runs over both ends, each under the sentence of 01 that it is about. It computes otherwise
+-- where the freedom is taken away that the sentence grants, or where something is let happen that the sentence forbids.
+use Prim.Native.Nat.{ℕ, _+_, _*_, _/_, _%_}
+use mathlib.Core.Bool.{Bool, true, false, cond, _&&_}
+use mathlib.Core.List.{List, [], _∷_, _++_}
+use lib.ListN.{length, take, replicate}
+use Rattle.messages.specs.Layout.{Message}
+use Rattle.pages.specs.Pages.{perPage}
+use Rattle.taking.specs.Taking.{sameList}
+use Rattle.dock.specs.Data.{loaded, withPage}
+use Rattle.dock.specs.declared.Dock.{Dock}
+use Rattle.dock.specs.declared.Policy.{Policy}
+use Rattle.dock.specs.declared.Policy.the-variants.{Give, Nak, Busy}
+use Rattle.dock.specs.declared.Standing.{Standing as Dock·Standing}
+use Rattle.dock.specs.declared.Standing.the-variants.{Ready, Asking, Sending}
+use Rattle.laptop.specs.State.{memory, freshLaptop}
+use Rattle.laptop.specs.declared.Candidate.{Candidate}
+use Rattle.laptop.specs.declared.Candidate.the-variants.{Absent, Open, Done}
+use Rattle.laptop.specs.declared.Wait.{Wait}
+use Rattle.laptop.specs.declared.Wait.the-variants.{Nothing, Answer}
+use Rattle.laptop_laws.specs.Done.{Call, next, startOver, drop, enter, exit, timer, protocolError}
+use Rattle.catalogue.specs.Bytes.{catalogueBytes, heldCatalogue, heldBytes}
+use Rattle.link.specs.Cases.{Case, case, Standing, fresh, after, gathersOld, oldBytes, upFrom, buffer, exchange}
+use Rattle.link.specs.Demand.{refusalOf, whole}
+use Rattle.link.specs.Exchanges.{times, settles}
+use Rattle.link.specs.Ends.{laptopDoes}
+use Rattle.link.specs.Joined.{clear, gone, System, Event, calls, loseRequest, reach, answer, loseAnswer, arrive, sent, failed}
+use Rattle.link.specs.Link.{step, run}
+use Rattle.link.specs.Needed.{identityAnswer, pageAnswer, needed, withAnswer, onWay, received, inAll}
+
+-- THE START. An SVID has one to six modes, no two alike
+abbrev pub modesOf : ℕ → List ℕ
+modesOf svid = upFrom (svid * 0x01000100 + 1) (svid % 6 + 1)
+
+-- a dock with the SVIDs 1, 2, 3 .. n, at rest at its last page
+unfoldable pub dockWith : ℕ → Dock
+dockWith n = withPage (n / perPage) (loaded (0x6C0004B4 ∷ 0 ∷ 0x12345678 ∷ 0xFFFFFFFF ∷ []) (upFrom 1 n))
+
+abbrev pub beside : Standing → ℕ → System
+beside laptop n = record { laptop = laptop .laptop; memory = laptop .memory; way = clear; fate = gone; dock = dockWith n; lost = 0 }
+
+-- beside it a laptop that holds the old catalogue, with another identity, other SVIDs and other modes
+unfoldable pub start : ℕ → System
+start n = beside (after gathersOld fresh) n
+
+-- WHAT IS SEEN of a system: the candidate, the pages counted, the confirmations lost, the dock's page, how the dock stands, and the command whose
+-- answer the laptop awaits, 0 for none; then the bytes of the held catalogue
+abbrev pub none : ℕ
+none = 0
+
+abbrev pub openWith : ℕ → ℕ
+openWith n = 100 + n
+
+abbrev pub doneWith : ℕ → ℕ
+doneWith n = 200 + n
+
+abbrev pub candidateSeen : Candidate → ℕ → ℕ
+candidateSeen Absent n = none
+candidateSeen Open n = openWith n
+candidateSeen Done n = doneWith n
+
+abbrev pub ready : ℕ
+ready = 0
+
+abbrev pub asking : ℕ
+asking = 1
+
+abbrev pub sending : ℕ
+sending = 2
+
+abbrev pub dockSeen : Dock·Standing → ℕ
+dockSeen Ready = ready
+dockSeen (Asking r) = asking
+dockSeen (Sending isPage) = sending
+
+abbrev pub awaitedIn : Wait → ℕ
+awaitedIn Nothing = 0
+awaitedIn (Answer r) = r .command
+
+abbrev pub view : ℕ → ℕ → ℕ → ℕ → ℕ → ℕ → List ℕ
+view candidate pages lost page standing awaited = candidate ∷ pages ∷ lost ∷ page ∷ standing ∷ awaited ∷ []
+
+unfoldable pub numbersOf : System → List ℕ
+numbersOf s =
+    view (candidateSeen (s .laptop .candidate) (s .laptop .gathered .count)) (s .laptop .pages) (s .lost) (s .dock .page) (dockSeen (s .dock .standing))
+    (awaitedIn (s .laptop .wait))
+
+-- f of a list that is computed once, and not as often as f reads it
+abbrev pub computed : List ℕ → (List ℕ → List ℕ) → List ℕ
+computed [] f = f []
+computed (x ∷ list) f = computed list (λ rest. f (x ∷ rest))
+
+-- the bytes of `heldIn (heldWords s)`
+unfoldable pub held : System → List ℕ
+held s =
+    computed (s .memory .heldRun)
+    (λ words. heldBytes (heldCatalogue (s .laptop .held) (s .memory .heldIdentity) (s .memory .heldSvids) (s .memory .heldModes) words))
+
+unfoldable pub seen : System → List (List ℕ)
+seen s = numbersOf s ∷ held s ∷ []
+
+-- a system now, and after the events of each further part
+unfoldable pub story : List (List Event) → System → List (List ℕ)
+story [] s = seen s
+story (events ∷ parts) s = seen s ++ story parts (run modesOf events s)
+
+-- from the start with n SVIDs, after these events and after each further part
+unfoldable pub ran : ℕ → List Event → List (List Event) → List (List ℕ)
+ran n events parts = story parts (run modesOf events (start n))
+
+-- the laptop's refusal number for each event, 0 for one that does not come to it
+abbrev pub refusalBy : Event → System → ℕ
+refusalBy (calls c out) s = laptopDoes c (s .laptop) (s .memory) out .step .refusal
+refusalBy loseRequest s = 0
+refusalBy (reach out) s = 0
+refusalBy (answer policy out) s = 0
+refusalBy loseAnswer s = 0
+refusalBy arrive s = refusalOf s (onWay (s .fate))
+refusalBy sent s = 0
+refusalBy failed s = 0
+
+-- the refusal numbers of these events behind those before them, and the system then
+unfoldable pub refusals : List Event → List ℕ → System → List (List ℕ)
+refusals [] numbers s = numbers ∷ seen s
+refusals (e ∷ events) numbers s = refusals events (numbers ++ refusalBy e s ∷ []) (step modesOf e s)
+
+-- from the start with n SVIDs, after the events before: the refusal numbers of these events, and the system then
+unfoldable pub refusing : ℕ → List Event → List Event → List (List ℕ)
+refusing n before events = refusals events [] (run modesOf before (start n))
+
+-- each of these is seen while a catalogue of these bytes is held
+abbrev pub while : List ℕ → List (List ℕ) → List (List ℕ)
+while bytes [] = []
+while bytes (numbers ∷ rest) = numbers ∷ bytes ∷ while bytes rest
+
+-- the bytes of the dock's catalogue: with no SVID, and with the SVIDs 1 and 2
+abbrev pub noneBytes : List ℕ
+noneBytes = 4 ∷ 0xB4 ∷ 0x04 ∷ 0x00 ∷ 0x6C ∷ 0 ∷ 0 ∷ 0 ∷ 0 ∷ 0x78 ∷ 0x56 ∷ 0x34 ∷ 0x12 ∷ 0xFF ∷ 0xFF ∷ 0xFF ∷ 0xFF ∷ 0 ∷ []
+
+abbrev pub twoBytes : List ℕ
+twoBytes =
+    4 ∷ 0xB4 ∷ 0x04 ∷ 0x00 ∷ 0x6C ∷ 0 ∷ 0 ∷ 0 ∷ 0 ∷ 0x78 ∷ 0x56 ∷ 0x34 ∷ 0x12 ∷ 0xFF ∷ 0xFF ∷ 0xFF ∷ 0xFF ∷
+    0x10 ∷ 1 ∷ 0 ∷ 0x20 ∷ 1 ∷ 1 ∷ 0 ∷ 1 ∷ 0x20 ∷ 2 ∷ 1 ∷ 0 ∷ 1 ∷
+    0x10 ∷ 2 ∷ 0 ∷ 0x20 ∷ 1 ∷ 2 ∷ 0 ∷ 2 ∷ 0x20 ∷ 2 ∷ 2 ∷ 0 ∷ 2 ∷ 0x20 ∷ 3 ∷ 2 ∷ 0 ∷ 2 ∷ 0 ∷ []
+
+-- EVENTS. A call sends a request, and it reaches the dock
+abbrev pub asksBy : Call → List Event
+asksBy c = calls c buffer ∷ reach buffer ∷ []
+
+-- next sends it, it reaches the dock, and policy answers; or another call, and policy gives
+abbrev pub answeredWith : Policy → List Event
+answeredWith policy = calls next buffer ∷ reach buffer ∷ answer policy buffer ∷ []
+
+abbrev pub givenTo : Call → List Event
+givenTo c = calls c buffer ∷ reach buffer ∷ answer Give buffer ∷ []
+
+-- Identity is answered, and page 0 of the list
+abbrev pub opensList : List Event
+opensList = exchange sent
+
+abbrev pub takesPage : List Event
+takesPage = opensList ++ exchange sent
+
+abbrev pub responseTimer : Event
+responseTimer = calls (timer 1 3) []
+
+abbrev pub entryTimer : Event
+entryTimer = calls (timer 4 4) []
+
+abbrev pub exitTimer : Event
+exitTimer = calls (timer 5 5) []
+
+abbrev pub protocolErrs : Event
+protocolErrs = calls protocolError []
+
+-- the numbers, counted from 1, of the runs that give something else than they say
+unfoldable pub sameLists : List (List ℕ) → List (List ℕ) → Bool
+sameLists [] [] = true
+sameLists [] (b ∷ m) = false
+sameLists (a ∷ l) [] = false
+sameLists (a ∷ l) (b ∷ m) = sameList a b && sameLists l m
+
+unfoldable pub differingFrom : ℕ → List Case → List ℕ
+differingFrom k [] = []
+differingFrom k (c ∷ runs) = cond (sameLists (c .gives) (c .says)) [] (k ∷ []) ++ differingFrom (k + 1) runs
+
+abbrev pub differing : List Case → List ℕ
+differing runs = differingFrom 1 runs
+
+-- LOSSES
+unfoldable pub losses : List Case
+losses =
+    -- "Each message may be lost": a request for Identity, for SVIDs and for Modes, each of which goes out again
+    case (ran 13 (calls next buffer ∷ loseRequest ∷ reach buffer ∷ []) ((responseTimer ∷ []) ∷ opensList ∷ []))
+    (while oldBytes (view none 0 0 1 ready 1 ∷ view none 0 0 1 ready 0 ∷ view (openWith 0) 0 0 0 ready 0 ∷ [])) ∷
+    case (ran 13 (opensList ++ calls next buffer ∷ loseRequest ∷ reach buffer ∷ []) ((responseTimer ∷ exchange sent) ∷ []))
+    (while oldBytes (view (openWith 0) 0 0 0 ready 2 ∷ view (openWith 12) 1 0 1 ready 0 ∷ [])) ∷
+    case (ran 2 (takesPage ++ calls next buffer ∷ loseRequest ∷ reach buffer ∷ []) ((responseTimer ∷ times 2 (exchange sent)) ∷ []))
+    (while oldBytes (view (doneWith 2) 1 0 0 ready 3 ∷ []) ++ while twoBytes (view none 1 0 0 ready 0 ∷ [])) ∷
+    -- and an answer: an Identity, a page before the last, the last page, and Modes. The dock hears nothing, or "failed"
+    case (ran 13 (answeredWith Give ++ loseAnswer ∷ arrive ∷ []) ((responseTimer ∷ opensList) ∷ []))
+    (while oldBytes (view none 0 0 0 sending 1 ∷ view (openWith 0) 0 0 0 ready 0 ∷ [])) ∷
+    case
+    (ran 13 (opensList ++ answeredWith Give ++ loseAnswer ∷ arrive ∷ [])
+    ((failed ∷ responseTimer ∷ exchange sent) ∷ (answeredWith Give ++ loseAnswer ∷ arrive ∷ []) ∷ (responseTimer ∷ exchange sent) ∷ []))
+    (while oldBytes
+    (view (openWith 0) 0 0 0 sending 2 ∷ view (openWith 12) 1 0 1 ready 0 ∷ view (openWith 12) 1 0 1 sending 2 ∷ view (doneWith 13) 2 0 1 ready 0 ∷ [])) ∷
+    case (ran 2 (takesPage ++ answeredWith Give ++ loseAnswer ∷ arrive ∷ []) ((responseTimer ∷ exchange sent) ∷ exchange sent ∷ []))
+    (while oldBytes (view (doneWith 2) 1 0 0 sending 3 ∷ view (doneWith 2) 1 0 0 ready 0 ∷ []) ++ while twoBytes (view none 1 0 0 ready 0 ∷ [])) ∷
+    -- "and a request not yet at the dock when its wait ends is": by the timer, and by a protocol error
+    case (ran 13 (calls next buffer ∷ responseTimer ∷ reach buffer ∷ []) ((opensList ++ calls next buffer ∷ protocolErrs ∷ reach buffer ∷ []) ∷ []))
+    (while oldBytes (view none 0 0 1 ready 0 ∷ view (openWith 0) 0 0 0 ready 0 ∷ [])) ∷ []
+
+-- CONFIRMATIONS
+unfoldable pub confirmations : List Case
+confirmations =
+    -- "An answer that arrives may go unconfirmed (the dock hears "failed" or nothing)": "failed" after the arrival; the page comes again, and adds nothing
+    case (ran 13 (opensList ++ answeredWith Give ++ arrive ∷ []) ((failed ∷ []) ∷ exchange sent ∷ exchange sent ∷ []))
+    (while oldBytes
+    (view (openWith 12) 1 0 0 sending 0 ∷ view (openWith 12) 1 1 0 ready 0 ∷ view (openWith 12) 2 1 1 ready 0 ∷ view (doneWith 13) 3 1 1 ready 0 ∷ [])) ∷
+    -- "failed" before the arrival
+    case (ran 13 (opensList ++ answeredWith Give ++ failed ∷ []) ((arrive ∷ []) ∷ exchange sent ∷ []))
+    (while oldBytes (view (openWith 0) 0 0 0 ready 2 ∷ view (openWith 12) 1 1 0 ready 0 ∷ view (openWith 12) 2 1 1 ready 0 ∷ [])) ∷
+    -- nothing, until a later request reaches the dock
+    case (ran 13 (opensList ++ answeredWith Give ++ arrive ∷ []) (asksBy next ∷ (answer Give buffer ∷ arrive ∷ sent ∷ []) ∷ []))
+    (while oldBytes (view (openWith 12) 1 0 0 sending 0 ∷ view (openWith 12) 1 1 0 asking 2 ∷ view (openWith 12) 2 1 1 ready 0 ∷ [])) ∷
+    -- Identity, the last page and Modes: none of them is a page before the last
+    case (ran 2 (exchange failed) (exchange failed ∷ exchange failed ∷ exchange failed ∷ []))
+    (while oldBytes (view (openWith 0) 0 0 0 ready 0 ∷ view (doneWith 2) 1 0 0 ready 0 ∷ view (doneWith 2) 1 0 0 ready 0 ∷ []) ++
+    while twoBytes (view none 1 0 0 ready 0 ∷ [])) ∷
+    -- "None is confirmed without arriving": not one that is lost; one of which the dock has heard "sent" is not lost,
+    case (ran 13 (opensList ++ answeredWith Give ++ loseAnswer ∷ sent ∷ []) []) (while oldBytes (view (openWith 0) 0 0 0 sending 2 ∷ [])) ∷
+    case (ran 13 (opensList ++ answeredWith Give ++ sent ∷ []) ((loseAnswer ∷ arrive ∷ []) ∷ exchange sent ∷ []))
+    (while oldBytes (view (openWith 0) 0 0 1 ready 2 ∷ view (openWith 12) 1 0 1 ready 0 ∷ view (doneWith 13) 2 0 1 ready 0 ∷ [])) ∷
+    -- and no later request reaches the dock before it: it is taken for that request, which is lost
+    case (ran 13 (opensList ++ answeredWith Give ++ sent ∷ responseTimer ∷ asksBy next) ((arrive ∷ []) ∷ (reach buffer ∷ []) ∷ exchange sent ∷ []))
+    (while oldBytes
+    (view (openWith 0) 0 0 1 ready 2 ∷ view (openWith 12) 1 0 1 ready 0 ∷ view (openWith 12) 1 0 1 ready 0 ∷ view (doneWith 13) 2 0 1 ready 0 ∷ [])) ∷
+    -- "none is altered or doubled": here one that is confirmed after its arrival, and one before
+    case (ran 13 (opensList ++ answeredWith Give ++ arrive ∷ arrive ∷ []) ((sent ∷ arrive ∷ []) ∷ []))
+    (while oldBytes (view (openWith 12) 1 0 0 sending 0 ∷ view (openWith 12) 1 0 1 ready 0 ∷ [])) ∷
+    case (ran 13 (opensList ++ answeredWith Give ++ sent ∷ arrive ∷ arrive ∷ []) []) (while oldBytes (view (openWith 12) 1 0 1 ready 0 ∷ [])) ∷
+    -- "and none arrives after a later request has reached the dock"
+    case (ran 13 (opensList ++ answeredWith Give ++ responseTimer ∷ asksBy next ++ arrive ∷ []) ((answer Give buffer ∷ arrive ∷ sent ∷ []) ∷ []))
+    (while oldBytes (view (openWith 0) 0 0 0 asking 2 ∷ view (openWith 12) 1 0 1 ready 0 ∷ [])) ∷
+    -- "The dock hears "sent" or "failed" at most once for an answer", here of a list of three pages,
+    case (ran 25 (takesPage ++ sent ∷ failed ∷ sent ∷ []) ((answeredWith Give ++ arrive ∷ failed ∷ sent ∷ []) ∷ exchange sent ∷ exchange sent ∷ []))
+    (while oldBytes
+    (view (openWith 12) 1 0 1 ready 0 ∷ view (openWith 24) 2 1 1 ready 0 ∷ view (openWith 24) 3 1 2 ready 0 ∷ view (doneWith 25) 4 1 2 ready 0 ∷ [])) ∷
+    -- "and not after a later request has reached it"
+    case (ran 13 (opensList ++ answeredWith Give ++ arrive ∷ asksBy next ++ sent ∷ failed ∷ []) [])
+    (while oldBytes (view (openWith 12) 1 1 0 asking 2 ∷ [])) ∷ []
+
+-- LATE ANSWERS
+unfoldable pub lateAnswers : List Case
+lateAnswers =
+    -- "Late answers, those to a request whose wait a timer or a protocol error has ended, may arrive": with nothing awaited a page drops the candidate,
+    case (ran 13 (takesPage ++ answeredWith Give ++ responseTimer ∷ arrive ∷ []) ((sent ∷ exchange sent) ∷ []))
+    (while oldBytes (view none 1 0 1 sending 0 ∷ view (openWith 0) 0 0 0 ready 0 ∷ [])) ∷
+    case (ran 13 (opensList ++ answeredWith Give ++ protocolErrs ∷ arrive ∷ []) []) (while oldBytes (view none 0 0 0 sending 0 ∷ [])) ∷
+    case (refusing 13 (takesPage ++ answeredWith Give) (responseTimer ∷ arrive ∷ []))
+    ((0 ∷ 6 ∷ []) ∷ while oldBytes (view none 1 0 1 sending 0 ∷ [])) ∷
+    -- also one of which the dock has heard "sent",
+    case (ran 13 (opensList ++ answeredWith Give ++ sent ∷ responseTimer ∷ arrive ∷ []) (times 3 (exchange sent) ∷ []))
+    (while oldBytes (view none 0 0 1 ready 0 ∷ view (doneWith 13) 2 0 1 ready 0 ∷ [])) ∷
+    -- and Identity and Modes change nothing
+    case (ran 13 (answeredWith Give ++ protocolErrs ∷ arrive ∷ []) []) (while oldBytes (view none 0 0 0 sending 0 ∷ [])) ∷
+    case (ran 2 (takesPage ++ answeredWith Give ++ responseTimer ∷ arrive ∷ []) (times 2 (exchange sent) ∷ []))
+    (while oldBytes (view (doneWith 2) 1 0 0 sending 0 ∷ []) ++ while twoBytes (view none 1 0 0 ready 0 ∷ [])) ∷
+    -- taken for a newer request, which is then lost: Identity, a page, and Modes
+    case (ran 13 (answeredWith Give ++ responseTimer ∷ calls next buffer ∷ arrive ∷ []) ((reach buffer ∷ []) ∷ exchange sent ∷ []))
+    (while oldBytes (view (openWith 0) 0 0 0 sending 0 ∷ view (openWith 0) 0 0 0 sending 0 ∷ view (openWith 12) 1 0 1 ready 0 ∷ [])) ∷
+    case (ran 13 (opensList ++ answeredWith Give ++ protocolErrs ∷ calls next buffer ∷ arrive ∷ []) ((reach buffer ∷ []) ∷ (sent ∷ exchange sent) ∷ []))
+    (while oldBytes (view (openWith 12) 1 0 0 sending 0 ∷ view (openWith 12) 1 0 0 sending 0 ∷ view (doneWith 13) 2 0 1 ready 0 ∷ [])) ∷
+    case (ran 2 (takesPage ++ answeredWith Give ++ responseTimer ∷ calls next buffer ∷ arrive ∷ []) ((reach buffer ∷ []) ∷ exchange sent ∷ []))
+    (while oldBytes (view (doneWith 2) 1 0 0 sending 0 ∷ view (doneWith 2) 1 0 0 sending 0 ∷ []) ++ while twoBytes (view none 1 0 0 ready 0 ∷ [])) ∷
+    -- not taken for a newer Identity: a page while Identity is awaited changes nothing
+    case
+    (ran 13 (opensList ++ answeredWith Give ++ responseTimer ∷ calls startOver buffer ∷ arrive ∷ []) ((reach buffer ∷ answer Give buffer ∷ arrive ∷ []) ∷ []))
+    (while oldBytes (view none 0 0 0 sending 1 ∷ view (openWith 0) 0 0 0 sending 0 ∷ [])) ∷
+    -- "A new good request while asking or sending replaces the old one": what policy then gives is Identity, and no page
+    case (ran 13 (opensList ++ asksBy next ++ responseTimer ∷ asksBy startOver) ((answer Give buffer ∷ arrive ∷ []) ∷ []))
+    (while oldBytes (view none 0 0 0 asking 1 ∷ view (openWith 0) 0 0 0 sending 0 ∷ [])) ∷
+    case (ran 13 (takesPage ++ answeredWith Give ++ responseTimer ∷ asksBy startOver ++ sent ∷ []) ((answer Give buffer ∷ arrive ∷ []) ∷ []))
+    (while oldBytes (view none 0 0 0 asking 1 ∷ view (openWith 0) 0 0 0 sending 0 ∷ [])) ∷ []
+
+-- POLICY
+unfoldable pub policies : List Case
+policies =
+    -- "policy gives or says BUSY": to Identity, to SVIDs before a page and after one, and to Modes
+    case (ran 13 (answeredWith Busy ++ arrive ∷ []) ((sent ∷ exchange sent) ∷ []))
+    (while oldBytes (view none 0 0 0 sending 0 ∷ view (openWith 0) 0 0 0 ready 0 ∷ [])) ∷
+    case
+    (ran 13 (opensList ++ answeredWith Busy ++ arrive ∷ sent ∷ []) (exchange sent ∷ (answeredWith Busy ++ arrive ∷ sent ∷ []) ∷ exchange sent ∷ []))
+    (while oldBytes
+    (view (openWith 0) 0 0 0 ready 0 ∷ view (openWith 12) 1 0 1 ready 0 ∷ view (openWith 12) 1 0 1 ready 0 ∷ view (doneWith 13) 2 0 1 ready 0 ∷ [])) ∷
+    case (ran 2 (takesPage ++ answeredWith Busy ++ arrive ∷ sent ∷ []) (times 2 (exchange sent) ∷ []))
+    (while oldBytes (view (doneWith 2) 1 0 0 ready 0 ∷ []) ++ while twoBytes (view none 1 0 0 ready 0 ∷ [])) ∷
+    -- "and says NAK only to SVIDs with an empty list": NAK and give come to the same there, and BUSY may come first
+    case (ran 0 (opensList ++ answeredWith Nak ++ arrive ∷ []) []) (while noneBytes (view none 0 0 0 sending 0 ∷ [])) ∷
+    case (ran 0 (opensList ++ answeredWith Busy ++ arrive ∷ []) ((answeredWith Give ++ arrive ∷ []) ∷ []))
+    (while oldBytes (view (openWith 0) 0 0 0 sending 0 ∷ []) ++ while noneBytes (view none 0 0 0 sending 0 ∷ [])) ∷
+    -- not to Identity, to a list or to Modes, nor to Enter and Exit: the dock goes on asking, whatever its list
+    case (ran 0 (answeredWith Nak) []) (while oldBytes (view none 0 0 0 asking 1 ∷ [])) ∷
+    case (ran 13 (opensList ++ answeredWith Nak) []) (while oldBytes (view (openWith 0) 0 0 0 asking 2 ∷ [])) ∷
+    case (ran 2 (takesPage ++ answeredWith Nak) []) (while oldBytes (view (doneWith 2) 1 0 0 asking 3 ∷ [])) ∷
+    case (ran 0 (asksBy (enter 1 1) ++ answer Nak buffer ∷ []) ((answer Give buffer ∷ arrive ∷ asksBy (exit 1 1) ++ answer Nak buffer ∷ []) ∷ []))
+    (while oldBytes (view none 1 0 0 asking 4 ∷ view none 1 0 0 asking 5 ∷ [])) ∷ []
+
+-- THE REPLACEMENT. Is the dock's whole catalogue of n SVIDs held, to the byte
+unfoldable pub holdsWhole : ℕ → List Event → List (List ℕ)
+holdsWhole n events =
+    computed (catalogueBytes (whole modesOf (dockWith n))) (λ bytes. cond (sameList (held (run modesOf events (start n))) bytes) 1 0 ∷ []) ∷ []
+
+-- a laptop that is lent runs of 433 words, each of them 9
+abbrev pub lentMore : Standing
+lentMore =
+    record {
+      laptop = freshLaptop;
+      memory =
+          memory (replicate 72 0) (replicate 72 0) (replicate 6 0) (replicate 433 9) (replicate 72 0) (replicate 72 0) (replicate 6 0) (replicate 433 9)
+          (replicate 72 0);
+      refusal = 0;
+    }
+
+unfoldable pub heldRunOf : System → List (List ℕ)
+heldRunOf s = (length (s .memory .heldRun) ∷ take 12 (s .memory .heldRun)) ∷ []
+
+unfoldable pub replacements : List Case
+replacements =
+    -- "Publishing replaces the held catalogue at once and leaves no candidate": the old one is held to the byte up to the last answer, and the dock's from
+    -- its arrival on; so again in the next gathering
+    case
+    (ran 2 (calls next buffer ∷ []) ((reach buffer ∷ answer Give buffer ∷ []) ∷ (arrive ∷ sent ∷ []) ∷ exchange sent ∷ exchange sent ∷ answeredWith Give ∷
+    (arrive ∷ []) ∷ (sent ∷ takesPage) ∷ []))
+    (while oldBytes
+    (view none 0 0 0 ready 1 ∷ view none 0 0 0 sending 1 ∷ view (openWith 0) 0 0 0 ready 0 ∷ view (doneWith 2) 1 0 0 ready 0 ∷
+    view (doneWith 2) 1 0 0 ready 0 ∷ view (doneWith 2) 1 0 0 sending 3 ∷ []) ++
+    while twoBytes (view none 1 0 0 sending 0 ∷ view (doneWith 2) 1 0 0 ready 0 ∷ [])) ∷
+    -- "policy gives", for every list and every SVID: the whole catalogue of 1, 12, 13 and 72 SVIDs
+    case (holdsWhole 1 (times 3 (exchange sent)) ++ holdsWhole 12 (times 15 (exchange sent)) ++ holdsWhole 13 (times 16 (exchange sent)))
+    ((1 ∷ []) ∷ (1 ∷ []) ∷ (1 ∷ []) ∷ []) ∷
+    case (holdsWhole 72 (times 80 (exchange sent))) ((1 ∷ []) ∷ []) ∷
+    -- no dead end: a page that is confirmed has still to arrive and a newer request is out; the dock is sending and hears nothing; a mode was asked for
+    case
+    (holdsWhole 13 (opensList ++ answeredWith Give ++ sent ∷ responseTimer ∷ calls next buffer ∷ settles ++ times 16 (exchange sent)) ++
+    holdsWhole 2 (takesPage ++ answeredWith Give ++ arrive ∷ settles ++ times 4 (exchange sent)) ++
+    holdsWhole 0 (givenTo (enter 1 1) ++ settles ++ times 2 (exchange sent)))
+    ((1 ∷ []) ∷ (1 ∷ []) ∷ (1 ∷ []) ∷ []) ∷
+    -- "Lent runs have 432 words or more and come back as left": words beyond an SVID's modes stay
+    case (heldRunOf (run modesOf (times 4 (exchange sent)) (beside lentMore 2)))
+    ((433 ∷ 0x01000101 ∷ 0x01000102 ∷ 9 ∷ 9 ∷ 9 ∷ 9 ∷ 0x02000201 ∷ 0x02000202 ∷ 0x02000203 ∷ 9 ∷ 9 ∷ 9 ∷ []) ∷ []) ∷ []
+
+-- HOW A GATHERING ENDS
+unfoldable pub endings : List Case
+endings =
+    -- "A gathering ends unfinished only by drop": with the list open, and with modes missing. It is refused while an answer is awaited
+    case (ran 13 (takesPage ++ calls next buffer ∷ calls drop [] ∷ []) ((responseTimer ∷ calls drop [] ∷ []) ∷ exchange sent ∷ []))
+    (while oldBytes (view (openWith 12) 1 0 1 ready 2 ∷ view none 1 0 1 ready 0 ∷ view (openWith 0) 0 0 0 ready 0 ∷ [])) ∷
+    case (ran 2 (takesPage ++ exchange sent) ((calls drop [] ∷ []) ∷ times 4 (exchange sent) ∷ []))
+    (while oldBytes (view (doneWith 2) 1 0 0 ready 0 ∷ view none 1 0 0 ready 0 ∷ []) ++ while twoBytes (view none 1 0 0 ready 0 ∷ [])) ∷
+    -- "start over": with the list open, and with modes missing. "A gathering opens with its Identity ACK": the confirmations lost before it no longer count
+    case (ran 13 (opensList ++ exchange failed) ((calls startOver buffer ∷ []) ∷ (reach buffer ∷ answer Give buffer ∷ []) ∷ (arrive ∷ []) ∷ []))
+    (while oldBytes
+    (view (openWith 12) 1 1 0 ready 0 ∷ view none 0 1 0 ready 1 ∷ view none 0 1 0 sending 1 ∷ view (openWith 0) 0 0 0 sending 0 ∷ [])) ∷
+    case (ran 2 (takesPage ++ exchange sent ++ givenTo startOver ++ arrive ∷ sent ∷ []) (times 3 (exchange sent) ∷ []))
+    (while oldBytes (view (openWith 0) 0 0 0 ready 0 ∷ []) ++ while twoBytes (view none 1 0 0 ready 0 ∷ [])) ∷
+    -- a protocol error or the response timer ends no gathering but one that awaits Identity
+    case
+    (ran 13 (takesPage ++ calls next buffer ∷ protocolErrs ∷ [])
+    ((exchange sent ++ calls next buffer ∷ protocolErrs ∷ []) ∷ (calls next buffer ∷ responseTimer ∷ []) ∷ []))
+    (while oldBytes (view (openWith 12) 1 0 1 ready 0 ∷ view (doneWith 13) 2 0 1 ready 0 ∷ view (doneWith 13) 2 0 1 ready 0 ∷ [])) ∷
+    case (ran 13 (calls next buffer ∷ protocolErrs ∷ []) ((opensList ++ givenTo startOver ++ protocolErrs ∷ []) ∷ []))
+    (while oldBytes (view none 0 0 1 ready 0 ∷ view none 0 0 0 sending 0 ∷ [])) ∷
+    -- every call is refused 7 while an answer is awaited, and a wrong timer 9
+    case
+    (refusing 13 takesPage
+    (calls next buffer ∷ calls drop [] ∷ calls next buffer ∷ calls startOver buffer ∷ calls (enter 1 1) buffer ∷ entryTimer ∷ exitTimer ∷
+    responseTimer ∷ responseTimer ∷ []))
+    ((0 ∷ 7 ∷ 7 ∷ 7 ∷ 7 ∷ 9 ∷ 9 ∷ 0 ∷ 9 ∷ []) ∷ while oldBytes (view (openWith 12) 1 0 1 ready 0 ∷ [])) ∷
+    -- "a late page with nothing awaited": under late answers. "or 14": by the two hundredth page without an end, and not by the one before it
+    case (refusing 13 (opensList ++ times 198 (answeredWith Give ++ arrive ∷ [])) (times 2 (answeredWith Give ++ arrive ∷ [])))
+    ((0 ∷ 0 ∷ 0 ∷ 0 ∷ 0 ∷ 0 ∷ 0 ∷ 14 ∷ []) ∷ while oldBytes (view none 200 199 0 sending 0 ∷ [])) ∷ []
+
+-- MODES BETWEEN GATHERINGS. The entered modes of the old catalogue's two SVIDs are seen too, a set bit per position
+unfoldable pub withMarks : System → List (List ℕ)
+withMarks s = numbersOf s ∷ take 2 (s .memory .entered) ∷ []
+
+unfoldable pub modeStory : List (List Event) → System → List (List ℕ)
+modeStory [] s = withMarks s
+modeStory (events ∷ parts) s = withMarks s ++ modeStory parts (run modesOf events s)
+
+unfoldable pub modesRan : List Event → List (List Event) → List (List ℕ)
+modesRan events parts = modeStory parts (run modesOf events (start 13))
+
+-- a call that policy gives to, and whose answer arrives and is confirmed
+abbrev pub doneBy : Call → List Event
+doneBy c = givenTo c ++ arrive ∷ sent ∷ []
+
+unfoldable pub modeRuns : List Case
+modeRuns =
+    -- "Enter ACK marks the mode, Exit ACK unmarks it"; next and start over "are refused 13 while any mode is entered", and send nothing. Then a gathering
+    -- begins; until then the dock's page does not move
+    case
+    (modesRan (calls (enter 0xFF01 2) buffer ∷ []) ((reach buffer ∷ []) ∷ (answer Give buffer ∷ arrive ∷ []) ∷ (sent ∷ asksBy next ++ asksBy startOver) ∷
+    doneBy (exit 0xFF01 2) ∷ opensList ∷ []))
+    (view none 1 0 1 ready 4 ∷ (0 ∷ 0 ∷ []) ∷ view none 1 0 1 asking 4 ∷ (0 ∷ 0 ∷ []) ∷ view none 1 0 1 sending 0 ∷ (2 ∷ 0 ∷ []) ∷
+    view none 1 0 1 ready 0 ∷ (2 ∷ 0 ∷ []) ∷ view none 1 0 1 ready 0 ∷ (0 ∷ 0 ∷ []) ∷ view (openWith 0) 0 0 0 ready 0 ∷ (0 ∷ 0 ∷ []) ∷ []) ∷
+    case
+    (refusing 13 (doneBy (enter 1 1))
+    (calls next buffer ∷ calls startOver buffer ∷ calls (enter 1 1) buffer ∷ calls (exit 0xFF01 1) buffer ∷ calls drop [] ∷ []))
+    ((13 ∷ 13 ∷ 13 ∷ 13 ∷ 0 ∷ []) ∷ while oldBytes (view none 1 0 1 ready 0 ∷ [])) ∷
+    -- "(7: all of that SVID)", and of no other
+    case (modesRan (doneBy (enter 0xFF01 1) ++ doneBy (enter 0xFF01 2) ++ doneBy (enter 1 1)) (doneBy (exit 0xFF01 7) ∷ []))
+    (view none 1 0 1 ready 0 ∷ (3 ∷ 1 ∷ []) ∷ view none 1 0 1 ready 0 ∷ (0 ∷ 1 ∷ []) ∷ []) ∷
+    -- "enter: 13 if there is a candidate": it goes nowhere
+    case (modesRan (opensList ++ asksBy (enter 0xFF01 1)) []) (view (openWith 0) 0 0 0 ready 0 ∷ (0 ∷ 0 ∷ []) ∷ []) ∷
+    -- "NAK or BUSY is told to policy and changes no mark"
+    case
+    (modesRan (asksBy (enter 1 1) ++ answer Busy buffer ∷ arrive ∷ sent ∷ [])
+    ((doneBy (enter 1 1) ++ asksBy (exit 1 1) ++ answer Busy buffer ∷ arrive ∷ []) ∷ []))
+    (view none 1 0 1 ready 0 ∷ (0 ∷ 0 ∷ []) ∷ view none 1 0 1 sending 0 ∷ (0 ∷ 1 ∷ []) ∷ []) ∷
+    -- "The right one, or a protocol error, ends the wait": of a request to enter that is lost, the entry timer; of an answer that is lost, a protocol error
+    case
+    (modesRan (calls (enter 1 1) buffer ∷ loseRequest ∷ reach buffer ∷ responseTimer ∷ exitTimer ∷ []) ((entryTimer ∷ []) ∷
+    (givenTo (enter 1 1) ++ loseAnswer ∷ arrive ∷ []) ∷ (protocolErrs ∷ []) ∷ []))
+    (view none 1 0 1 ready 4 ∷ (0 ∷ 0 ∷ []) ∷ view none 1 0 1 ready 0 ∷ (0 ∷ 0 ∷ []) ∷ view none 1 0 1 sending 4 ∷ (0 ∷ 0 ∷ []) ∷
+    view none 1 0 1 sending 0 ∷ (0 ∷ 0 ∷ []) ∷ []) ∷
+    -- of an Exit, the exit timer. A late answer to it changes no mark, and one that is taken for a newer Exit unmarks
+    case
+    (modesRan (doneBy (enter 1 1) ++ givenTo (exit 1 1) ++ responseTimer ∷ entryTimer ∷ []) ((exitTimer ∷ arrive ∷ []) ∷
+    (givenTo (exit 1 1) ++ protocolErrs ∷ calls (exit 1 1) buffer ∷ arrive ∷ reach buffer ∷ []) ∷ []))
+    (view none 1 0 1 sending 5 ∷ (0 ∷ 1 ∷ []) ∷ view none 1 0 1 sending 0 ∷ (0 ∷ 1 ∷ []) ∷ view none 1 0 1 sending 0 ∷ (0 ∷ 0 ∷ []) ∷ []) ∷ []
+
+-- THE NUMBER OF ANSWERS STILL NEEDED, at the start and after each part of a run, where `got` has come
+unfoldable pub neededAlong : List (List Event) → System → List Message → List ℕ
+neededAlong [] s got = needed modesOf (s .dock) got ∷ []
+neededAlong (events ∷ parts) s got = needed modesOf (s .dock) got ∷ neededAlong parts (run modesOf events s) (received modesOf events s got)
+
+unfoldable pub neededIn : ℕ → List (List Event) → List (List ℕ)
+neededIn n parts = neededAlong parts (start n) [] ∷ []
+
+-- with 13 SVIDs, once page 0 comes where Identity and k times page 0 have come
+unfoldable pub neededAfter : ℕ → ℕ
+neededAfter k =
+    needed modesOf (dockWith 13)
+    (withAnswer (upFrom 1 13) (pageAnswer (upFrom 1 13) 0) (replicate k (pageAnswer (upFrom 1 13) 0) ++ identityAnswer (dockWith 13) ∷ []))
+
+-- k exchanges in which nothing is lost, each a part
+abbrev pub exchanges : ℕ → List (List Event)
+exchanges k = replicate k (exchange sent)
+
+-- in all, as the dock's data tells it and as document 01 reckons it
+abbrev pub neededInAll : List ℕ → List ℕ
+neededInAll [] = []
+neededInAll (n ∷ sizes) = needed modesOf (dockWith n) [] ∷ inAll n ∷ neededInAll sizes
+
+unfoldable pub needs : List Case
+needs =
+    -- Identity, n / 12 + 1 pages and the modes of n SVIDs; 2 for an empty list
+    case (neededInAll (0 ∷ 1 ∷ 11 ∷ 12 ∷ 13 ∷ 24 ∷ 72 ∷ []) ∷ [])
+    ((2 ∷ 2 ∷ 3 ∷ 3 ∷ 13 ∷ 13 ∷ 15 ∷ 15 ∷ 16 ∷ 16 ∷ 28 ∷ 28 ∷ 80 ∷ 80 ∷ []) ∷ []) ∷
+    -- nothing is lost: each exchange lowers it by 1, to 0; the next Identity is that of a new gathering
+    case (neededIn 0 (exchanges 2) ++ neededIn 1 (exchanges 4) ++ neededIn 11 (exchanges 13))
+    ((2 ∷ 1 ∷ 0 ∷ []) ∷ (3 ∷ 2 ∷ 1 ∷ 0 ∷ 2 ∷ []) ∷ (13 ∷ 12 ∷ 11 ∷ 10 ∷ 9 ∷ 8 ∷ 7 ∷ 6 ∷ 5 ∷ 4 ∷ 3 ∷ 2 ∷ 1 ∷ 0 ∷ []) ∷ []) ∷
+    case (neededIn 12 (exchanges 15) ++ neededIn 13 (exchanges 16))
+    ((15 ∷ 14 ∷ 13 ∷ 12 ∷ 11 ∷ 10 ∷ 9 ∷ 8 ∷ 7 ∷ 6 ∷ 5 ∷ 4 ∷ 3 ∷ 2 ∷ 1 ∷ 0 ∷ []) ∷
+    (16 ∷ 15 ∷ 14 ∷ 13 ∷ 12 ∷ 11 ∷ 10 ∷ 9 ∷ 8 ∷ 7 ∷ 6 ∷ 5 ∷ 4 ∷ 3 ∷ 2 ∷ 1 ∷ 0 ∷ []) ∷ []) ∷
+    case (neededIn 24 (exchanges 28))
+    ((28 ∷ 27 ∷ 26 ∷ 25 ∷ 24 ∷ 23 ∷ 22 ∷ 21 ∷ 20 ∷ 19 ∷ 18 ∷ 17 ∷ 16 ∷ 15 ∷ 14 ∷ 13 ∷ 12 ∷ 11 ∷ 10 ∷ 9 ∷ 8 ∷ 7 ∷ 6 ∷ 5 ∷ 4 ∷ 3 ∷ 2 ∷ 1 ∷ 0 ∷ []) ∷ []) ∷
+    -- a page that comes again, and BUSY to Identity, to SVIDs and to Modes, lower nothing
+    case (neededIn 13 (opensList ∷ exchange failed ∷ exchange failed ∷ exchange sent ∷ exchange sent ∷ [])) ((16 ∷ 15 ∷ 14 ∷ 14 ∷ 14 ∷ 13 ∷ []) ∷ []) ∷
+    case
+    (neededIn 2 ((answeredWith Busy ++ arrive ∷ []) ∷ opensList ∷ (answeredWith Busy ++ arrive ∷ []) ∷ exchange sent ∷ (answeredWith Busy ++ arrive ∷ []) ∷
+    times 2 (exchange sent) ∷ []))
+    ((4 ∷ 4 ∷ 3 ∷ 3 ∷ 2 ∷ 2 ∷ 0 ∷ []) ∷ []) ∷
+    -- drop and start over raise it, and a timer does not; nor does a request or an answer that is lost, or one that goes unconfirmed
+    case
+    (neededIn 13 (takesPage ∷ (calls drop [] ∷ []) ∷ takesPage ∷ (calls startOver buffer ∷ []) ∷ (reach buffer ∷ answer Give buffer ∷ arrive ∷ []) ∷
+    (answeredWith Give ++ failed ∷ loseAnswer ∷ responseTimer ∷ calls next buffer ∷ loseRequest ∷ protocolErrs ∷ []) ∷ []))
+    ((16 ∷ 14 ∷ 16 ∷ 14 ∷ 16 ∷ 15 ∷ 15 ∷ []) ∷ []) ∷
+    -- a late page with nothing awaited raises it, one that is taken for a newer request lowers it, and late Modes with nothing awaited do neither
+    case
+    (neededIn 13 (opensList ∷ (answeredWith Give ++ responseTimer ∷ arrive ∷ []) ∷ opensList ∷
+    (answeredWith Give ++ responseTimer ∷ calls next buffer ∷ arrive ∷ []) ∷ (sent ∷ exchange sent) ∷ (answeredWith Give ++ protocolErrs ∷ arrive ∷ []) ∷ exchange sent ∷ []))
+    ((16 ∷ 15 ∷ 16 ∷ 15 ∷ 14 ∷ 13 ∷ 13 ∷ 12 ∷ []) ∷ []) ∷
+    -- the two hundredth page without an end raises it
+    case ((neededAfter 198 ∷ neededAfter 199 ∷ []) ∷ []) ((14 ∷ 16 ∷ []) ∷ []) ∷ []
+
+-- every run
+unfoldable pub runs : List Case
+runs = losses ++ confirmations ++ lateAnswers ++ policies ++ modeRuns ++ endings ++ replacements ++ needs

@@ -1,0 +1,20 @@
+-- The replacement, a file for each topic, in the order in which they build on each other.
+pub mod Different
+pub mod Missing
+pub mod Come
+pub mod Receiving
+pub mod Tells
+pub mod Comes
+pub mod PageComes
+pub mod OtherComes
+pub mod AtCalls
+pub mod Events
+pub mod Laws
+pub mod Shapes
+pub mod Exchange
+pub mod Numbers
+pub mod Clean
+pub mod Advancing
+pub mod Stages
+pub mod LossFree
+pub mod DeadEnd

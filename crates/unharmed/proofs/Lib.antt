@@ -1,0 +1,21 @@
+-- Old or whole, a file for each topic, in the order in which they build on each other.
+pub mod Bytes
+pub mod Course
+pub mod Arrival
+pub mod Invariant
+pub mod Offering
+pub mod AtDock
+pub mod Confirming
+pub mod AtLaptop
+pub mod Awaited
+pub mod Filling
+pub mod Hears
+pub mod Landing
+pub mod PageLanding
+pub mod ModesLanding
+pub mod OtherLanding
+pub mod Landed
+pub mod Arriving
+pub mod Runs
+pub mod Laws
+pub mod Premises

@@ -32,9 +32,9 @@ use Rattle.unharmed.proofs.Course.{Carried, nothing, underWay, sure, arrived}
 use Rattle.unharmed.proofs.Invariant.{messageOf, fateOf, systemOf, Reached}
 use Rattle.unharmed.proofs.Runs.{reaches-aside, answers-aside, loses-aside, sent-aside, failed-aside, Does, does, steps}
 use Rattle.progress.proofs.AtCalls.{Outcome, decided-outcome, drop-outcome}
-use Rattle.progress.proofs.Comes.{Comes}
+use Rattle.progress.proofs.OnArrival.{Comes}
 use Rattle.progress.proofs.Missing.{missing-most}
-use Rattle.progress.proofs.OtherComes.{comes}
+use Rattle.progress.proofs.OthersArrive.{comes}
 use Rattle.progress.proofs.Tells.{Tells, needs-some}
 
 module _ (modesOf : ℕ → List ℕ) (start : System) (meets : Meets modesOf (start .dock)) where

@@ -15,7 +15,7 @@ use Rattle.link.specs.Link.{run}
 use Rattle.link.specs.Needed.{listAnswers, missing, needed, received, inAll}
 use Rattle.unharmed.proofs.Invariant.{CandidateIs, Complete, Reached}
 use Rattle.unharmed.proofs.Laws.{no-candidate, begun, there}
-use Rattle.progress.proofs.Come.{needed-in-all}
+use Rattle.progress.proofs.InOrder.{needed-in-all}
 use Rattle.progress.proofs.Events.{Tallies, tallies, tells-after}
 use Rattle.progress.proofs.Receiving.{list-open}
 use Rattle.progress.proofs.Tells.{Tells, none-came, all-came, pages-come, modes-come, open-left, none-left}

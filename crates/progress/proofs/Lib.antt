@@ -1,12 +1,12 @@
 -- The replacement, a file for each topic, in the order in which they build on each other.
 pub mod Different
 pub mod Missing
-pub mod Come
+pub mod InOrder
 pub mod Receiving
 pub mod Tells
-pub mod Comes
-pub mod PageComes
-pub mod OtherComes
+pub mod OnArrival
+pub mod PageArrives
+pub mod OthersArrive
 pub mod AtCalls
 pub mod Events
 pub mod Laws

@@ -39,7 +39,7 @@ use Rattle.unharmed.proofs.Laws.{identity-shaped, begins-with, begun}
 use Rattle.unharmed.proofs.Runs.{runs}
 use Rattle.progress.proofs.Advancing.{HoldsBase, Advance, onward, finished}
 use Rattle.progress.proofs.Clean.{rested, listing, Clean, confirms, held-reaching, held-handed, held-arrived}
-use Rattle.progress.proofs.Come.{some-in-all}
+use Rattle.progress.proofs.InOrder.{some-in-all}
 use Rattle.progress.proofs.Events.{tells-after}
 use Rattle.progress.proofs.Exchange.{isConfirmed, standing, wayOf, next-sends, identity-given}
 use Rattle.progress.proofs.Numbers.{open-number, empty-number}

@@ -14,7 +14,7 @@ use Rattle.laptop.specs.declared.Candidate.the-variants.{Open, Done}
 use Rattle.laptop.specs.declared.Laptop.{Laptop}
 use Rattle.link.specs.Demand.{Meets}
 use Rattle.link.specs.Needed.{needed}
-use Rattle.progress.proofs.Come.{still-needed, nak-needed}
+use Rattle.progress.proofs.InOrder.{still-needed, nak-needed}
 use Rattle.progress.proofs.Tells.{Tells, none-came, all-came, pages-come, modes-come}
 
 module _ (modesOf : ℕ → List ℕ) (d : Dock) (meets : Meets modesOf d) (l : Laptop) (got : List Message) where

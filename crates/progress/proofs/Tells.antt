@@ -14,7 +14,7 @@ use Rattle.laptop.specs.declared.Laptop.{Laptop}
 use Rattle.laptop_laws.specs.WellFormed.{awaitsIdentity}
 use Rattle.link.specs.Demand.{Meets}
 use Rattle.link.specs.Needed.{listAnswers, missing, needed, pagesIn, inAll}
-use Rattle.progress.proofs.Come.{Come, pages-left, still-needed, nak-left, nak-needed, list-in-all, needed-in-all}
+use Rattle.progress.proofs.InOrder.{Come, pages-left, still-needed, nak-left, nak-needed, list-in-all, needed-in-all}
 
 module _ (modesOf : ℕ → List ℕ) (d : Dock) (meets : Meets modesOf d) where
   -- nothing has come; or all; or Identity and the first p pages; or also the last page and the modes of some SVIDs

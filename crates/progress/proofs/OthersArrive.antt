@@ -44,9 +44,9 @@ use Rattle.unharmed.proofs.Landed.{no-request}
 use Rattle.unharmed.proofs.Landing.{last-unfit}
 use Rattle.unharmed.proofs.ModesLanding.{modes-with, complete, done-fits, named, modes-head, places-left}
 use Rattle.unharmed.proofs.OtherLanding.{identity-last, nak-last, nak-open, mode-last, busy-last}
-use Rattle.progress.proofs.Come.{Come, identity-comes, modes-come as come-modes, still-needed, nak-needed, nak-comes, some-in-all, needed-in-all}
-use Rattle.progress.proofs.Comes.{Comes, comes-same, comes-new, comes-none}
-use Rattle.progress.proofs.PageComes.{page-arrives}
+use Rattle.progress.proofs.InOrder.{Come, identity-comes, modes-come as come-modes, still-needed, nak-needed, nak-comes, some-in-all, needed-in-all}
+use Rattle.progress.proofs.OnArrival.{Comes, comes-same, comes-new, comes-none}
+use Rattle.progress.proofs.PageArrives.{page-arrives}
 use Rattle.progress.proofs.Receiving.{list-open, list-done, few-enough, done-enough, added, is-new, dropped-late, not-late, not-new-other, is-answer, no-answer-unfit, no-answer-busy, no-answer-mode, late-page, late-no, late-awaited, late-done}
 use Rattle.progress.proofs.Tells.{Tells, none-came, all-came, pages-come, modes-come, tells-same, empty-or-some, open-left, open-needed, none-left, modes-left-list}
 

@@ -35,8 +35,8 @@ use Rattle.unharmed.proofs.Course.{pageAck, Carried, At, in-step, lost-one, Tak
 use Rattle.unharmed.proofs.Hears.{page-more, page-again, page-fourteen, page-last}
 use Rattle.unharmed.proofs.Invariant.{messageOf, Gave, Shaped, CandidateIs}
 use Rattle.unharmed.proofs.PageLanding.{page-last-no, open-list, open-is, open-fits, page-taken}
-use Rattle.progress.proofs.Come.{Come, page-comes, page-comes-again, pages-left, still-needed}
-use Rattle.progress.proofs.Comes.{Comes, comes-new, comes-again, comes-none}
+use Rattle.progress.proofs.InOrder.{Come, page-comes, page-comes-again, pages-left, still-needed}
+use Rattle.progress.proofs.OnArrival.{Comes, comes-new, comes-again, comes-none}
 use Rattle.progress.proofs.Receiving.{list-open, list-done, too-many, few-enough, done-enough, added, ended-by-fourteen, is-new, not-new-again, not-new-fourteen, is-answer}
 use Rattle.progress.proofs.Tells.{Tells, none-came, all-came, pages-come, modes-come}
 

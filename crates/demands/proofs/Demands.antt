@@ -38,19 +38,22 @@ use Rattle.catalogue.specs.Bytes.{HeldCatalogue, CatalogueWritten}
 use Rattle.catalogue.specs.declared.Bytes.{Bytes}
 use Rattle.catalogue.proofs.Laws.{refused-leaves}
 use Rattle.link.specs.Cases.{cases, caseL, given, said}
-use Rattle.link.specs.Demand.{Meets, AtRest, Begins, apart, OldOrWhole, Lowers, Replaces, Counts, Raises, EndsBy, NeverBad, RequestTaken}
-use Rattle.link.specs.Exchanges.{HasAll, LossFree, NoDeadEnd}
+use Rattle.link.specs.Demand.{Meets, AtRest, Begins, apart, OldOrWhole, Lowers, Replaces, Counts, Completes, Raises, EndsBy, NeverBad, RequestTaken}
+use Rattle.link.specs.Exchanges.{HasAll, LossFree, NoDeadEnd, NextAsks}
 use Rattle.link.specs.Freedoms.{runs, differing}
 use Rattle.link.specs.Joined.{System, Event, calls}
 use Rattle.link.specs.Link.{step, run}
 use Rattle.link.specs.Needed.{needed, received, inAll}
+use Rattle.link.specs.Permits.{Permits}
 use Rattle.link.proofs.Cases.{cases-hold}
 use Rattle.link.proofs.Freedoms.{runs-hold}
+use Rattle.unharmed.proofs.Permitted.{permits}
 use Rattle.unharmed.proofs.Premises.{loaded-meets, loaded-has-all, rests-after}
 use Rattle.unharmed.proofs.Laws.{begins-with, old-or-whole, never-bad-there, request-taken}
+use Rattle.progress.proofs.Asking.{asks-for-what-is-needed}
 use Rattle.progress.proofs.DeadEnd.{no-dead-end}
 use Rattle.progress.proofs.LossFree.{loss-free}
-use Rattle.progress.proofs.Laws.{in-all, lowered-by-one, raised-by, replaced-at-zero, pages-counted, ends-only-by}
+use Rattle.progress.proofs.Laws.{in-all, lowered-by-one, raised-by, replaced-at-zero, pages-counted, completed, ends-only-by}
 
 -- DEMAND 1. The laptop: a refusal changes no lent byte, whatever the call and whatever the state,
 pub laptop-refusal-leaves : (c : Call) (l : Laptop) (m : Memory) (out : List ℕ) → (done c l m out .step .refusal ≡ 0 → ⊥) →
@@ -100,16 +103,21 @@ last-page-taken = take-last
 pub every-case : (given cases ≡ said cases) × (given caseL ≡ said caseL)
 every-case = cases-hold
 
--- and so do runs over the link, for each sentence of 01's section on it: none of them gives another list than it says.
+-- and so do runs over the link, for each sentence of 01's section on it that permits or forbids something: none gives another list than is written beside it.
 pub every-run : differing runs ≡ []
 every-run = runs-hold
+
+-- The link permits what that section grants, in every state: losses, late answers, BUSY, early and late confirmations, for every list and every SVID.
+pub link-permits : (modesOf : ℕ → List ℕ) (s : System) → Permits modesOf s
+link-permits = permits
 
 -- DEMAND 3. It begins when, of a laptop and a dock at rest, a call sends Discover Identity.
 pub begins : (modesOf : ℕ → List ℕ) (s : System) → AtRest s → (out : List ℕ) (c : Call) →
     step modesOf (calls c out) s .laptop .wait ≡ Answer identityRequest → Begins (step modesOf (calls c out) s)
 begins = begins-with
 
--- Every call keeps a laptop well-formed, so a laptop that was fresh once is at rest whenever it awaits nothing, whatever it holds by then.
+-- Every call keeps a laptop well-formed, so a laptop that was fresh once, beside a dock that is ready, is at rest whenever it awaits nothing, whatever it
+-- holds by then.
 pub well-formed-after-every-call : (c : Call) (l : Laptop) (m : Memory) (out : List ℕ) → WellFormed l m →
     WellFormed (done c l m out .step .laptop) (done c l m out .after)
 well-formed-after-every-call = keeps
@@ -129,8 +137,9 @@ pub all-there-when-loaded : (modesOf : ℕ → List ℕ) (identity svids : List 
     HasAll modesOf (loaded identity svids)
 all-there-when-loaded = loaded-has-all
 
--- THE REPLACEMENT HAPPENS. From rest, with no candidate and no mode entered, where nothing is lost: so many exchanges as the gathering needs answers end
--- with the dock's whole catalogue; up to the last arrival the old one is held, to the word; the pages are n / 12 + 1.
+-- THE REPLACEMENT HAPPENS. From rest, with no candidate and no mode entered, with a dock that has all that is asked and buffers of 28 bytes, where nothing is
+-- lost: so many exchanges as the gathering needs answers end with the dock's whole catalogue; up to the last arrival the old one is held, to the word; for n
+-- at least 1 the pages are n / 12 + 1.
 pub whole-when-nothing-is-lost : (modesOf : ℕ → List ℕ) (s : System) → Meets modesOf (s .dock) → HasAll modesOf (s .dock) → AtRest s →
     s .laptop .candidate ≡ Absent → anyEntered (s .memory .entered) ≡ false → (out : List ℕ) → 28 ≤ length out → LossFree modesOf s out
 whole-when-nothing-is-lost = loss-free
@@ -147,15 +156,16 @@ module _ (modesOf : ℕ → List ℕ) (start : System) (meets : Meets modesOf (s
   abbrev came : List Message
   came = received modesOf events start []
 
-  -- From then on, after any run of events, the laptop holds its old catalogue to the word, or the dock's whole one in order.
+  -- From the moment that Identity has gone out, after any run of events, the laptop holds its old catalogue to the word, or the dock's whole one in order.
   pub holds-old-or-whole : OldOrWhole modesOf start there
   holds-old-or-whole = old-or-whole modesOf start meets begun events
 
-  -- An awaited answer that is not BUSY and is no page that came before lowers the number of answers still needed by exactly 1; nothing else does.
+  -- An awaited answer to Identity, SVIDs or Modes that is not BUSY, no page that came before and not the two hundredth page without an end lowers the number
+  -- of answers still needed by exactly 1; nothing else lowers it.
   pub lowered-by-a-new-answer : (e : Event) → Lowers modesOf (start .dock) e there came
   lowered-by-a-new-answer = lowered-by-one modesOf start meets begun events
 
-  -- Identity, once all have come, and the ends of 01 raise it again.
+  -- Only Identity, once all have come, and the ends of 01 raise it again.
   pub raised-by-identity-or-an-end : (e : Event) → Raises modesOf (start .dock) e there came
   raised-by-identity-or-an-end = raised-by modesOf start meets begun events
 
@@ -163,15 +173,25 @@ module _ (modesOf : ℕ → List ℕ) (start : System) (meets : Meets modesOf (s
   pub replaced-by-the-last-answer : (e : Event) → Replaces modesOf (start .dock) e there came
   replaced-by-the-last-answer = replaced-at-zero modesOf start meets begun events
 
-  -- In a gathering that has completed its list of n SVIDs the pages are n / 12 + 1 and the confirmations lost on pages before the last.
+  -- In a gathering that has completed its list of n SVIDs, n at least 1, the pages are n / 12 + 1 and the confirmations lost on pages before the last: from the
+  -- last page on, and when the last answer needed has come.
   pub pages-add-up : Counts modesOf (start .dock) there came
   pages-add-up = pages-counted modesOf start meets begun events
+
+  pub pages-add-up-in-the-end : (e : Event) → Completes modesOf (start .dock) e there came
+  pages-add-up-in-the-end = completed modesOf start meets begun events
 
   -- A gathering ends unfinished only by drop, start over, a late page with nothing awaited, or 14.
   pub ends-unfinished-only-by : (e : Event) → EndsBy modesOf (start .dock) e there came
   ends-unfinished-only-by = ends-only-by modesOf start meets begun events
 
-  -- No dead end: with no mode entered, a wait that still stands can be ended, and a further run leads to the dock's whole catalogue.
+  -- Whatever has been lost: where nothing is awaited and no mode is entered, next asks for an answer that is needed.
+  pub next-asks-for-what-is-needed : (out : List ℕ) → 28 ≤ length out → there .laptop .wait ≡ Nothing → anyEntered (there .memory .entered) ≡ false →
+      NextAsks modesOf (start .dock) there came out
+  next-asks-for-what-is-needed = asks-for-what-is-needed modesOf start meets begun events
+
+  -- No dead end: with no mode entered and a dock that has all that is asked, a wait that still stands can be ended, and a further run leads to the dock's
+  -- whole catalogue.
   pub never-a-dead-end : HasAll modesOf (start .dock) → (out : List ℕ) → 28 ≤ length out → anyEntered (there .memory .entered) ≡ false →
       NoDeadEnd modesOf (start .dock) there out
   never-a-dead-end all out room = no-dead-end modesOf start meets all out room begun events

@@ -107,6 +107,13 @@ module _ (modesOf : ℕ → List ℕ) (d : Dock) where
       (gatheredList (s .laptop) (s .memory .svids) ≡ listed d) × (s .laptop .pages ≡ pagesIn got) ×
       (pagesIn got ≡ length (listed d) / perPage + 1 + s .lost)
 
+  -- and so it is when the last answer needed has come
+  abbrev pub Completes : Event → System → List Message → Type 0
+  Completes e s got =
+      0 < now got → thereafter e s got ≡ 0 → 0 < length (listed d) →
+      (step modesOf e s .laptop .pages ≡ pagesIn (receivedBy e s got)) ×
+      (pagesIn (receivedBy e s got) ≡ length (listed d) / perPage + 1 + step modesOf e s .lost)
+
 -- how the laptop answers what arrives
 abbrev pub refusalOf : System → Option (List ℕ) → ℕ
 refusalOf s none = 0

@@ -7,3 +7,4 @@ pub mod Freedoms
 pub mod Joined
 pub mod Link
 pub mod Needed
+pub mod Permits

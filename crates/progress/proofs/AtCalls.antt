@@ -77,7 +77,7 @@ module _ (modesOf : ℕ → List ℕ) (d : Dock) (meets : Meets modesOf d) (got 
       where
         go : Tells modesOf d meets l got → ((needed modesOf d got ≡ 0) × (_≡_ {A = Bool} true true)) ⊎ (c ≡ startOver)
         go (none-came g a) = absurd (omega (arith, ap (needed modesOf d) g))
-        go (all-came n z a w) = inl (n, refl)
+        go (all-came n z a w k) = inl (n, refl)
         go (pages-come p a count most pages come) = absurd (false≢true (sym (ap isAbsent a) ∙ ap isAbsent e))
         go (modes-come a some k pages come) = absurd (false≢true (sym (ap isAbsent a) ∙ ap isAbsent e))
 

@@ -27,7 +27,8 @@ use Rattle.link.specs.Link.{lostWith, brought, isUnsure, opens, step}
 use Rattle.unharmed.proofs.AtDock.{Inv, pageThen}
 use Rattle.unharmed.proofs.Course.{Carried, nothing, underWay, sure, arrived, movesOn}
 use Rattle.unharmed.proofs.Invariant.{dockAt, fateOf, Reached}
-use Rattle.progress.proofs.Exchange.{isConfirmed, standing, reach-is, give-is, wayOf, arrive-is, sent-is}
+use Rattle.link.specs.Permits.{isConfirmed}
+use Rattle.progress.proofs.Exchange.{standing, reach-is, give-is, wayOf, arrive-is, sent-is}
 use Rattle.progress.proofs.Tells.{Tells}
 
 -- what tells the fates apart

@@ -38,7 +38,8 @@ use Rattle.unharmed.proofs.Invariant.{messageOf, Shaped, systemOf, Reached}
 use Rattle.unharmed.proofs.Landed.{no-request}
 use Rattle.unharmed.proofs.Laws.{identity-shaped, there}
 use Rattle.unharmed.proofs.Runs.{steps}
-use Rattle.progress.proofs.Exchange.{isConfirmed, standing, next-sends}
+use Rattle.link.specs.Permits.{isConfirmed}
+use Rattle.progress.proofs.Exchange.{standing, next-sends}
 use Rattle.progress.proofs.LossFree.{asks-identity, ends-whole}
 
 -- a protocol error ends any wait

@@ -2,40 +2,59 @@
 use mathlib.Core.Logic.{_⊎_, inl, inr}
 use mathlib.Core.Option.{Option, some}
 use mathlib.Core.Path.{_≡_, refl, ap, sym, _∙_, subst}
-use mathlib.Core.Bool.{Bool, true, false, false≢true}
+use mathlib.Core.Bool.{Bool, true, false, cond, false≢true}
 use mathlib.Core.List.{List, [], _∷_}
 use Prim.Native.Nat.{ℕ, _+_, _<_}
 use native.Mathlib.Omega.{arith}
+use borrow.Author.Tests.{le-ltb}
 use Rattle.messages.specs.Layout.{Message, messageBytes}
 use Rattle.messages.specs.Reading.{Outcome as Reading·Outcome}
 use Rattle.messages.specs.Reading.{accepted, readOutcome}
 use Rattle.dock.specs.Data.{listed}
 use Rattle.dock.specs.declared.Dock.{Dock}
 use Rattle.dock.specs.declared.Standing.{Standing}
+use Rattle.dock.specs.declared.Standing.the-variants.{Ready, Asking, Sending}
 use Rattle.hearing.specs.Hearing.{heard, isLatePage}
 use Rattle.owner.specs.Owner.{decideDrop}
 use Rattle.laptop.specs.State.{Memory}
+use Rattle.laptop.specs.declared.Candidate.the-variants.{Absent}
 use Rattle.laptop.specs.declared.Laptop.{Laptop}
 use Rattle.laptop_laws.specs.Done.{Call, message, next, startOver, drop, enter, exit, timer, protocolError}
 use Rattle.laptop_laws.specs.Holding.{Holding}
 use Rattle.laptop_laws.specs.WellFormed.{awaitsIdentity, WellFormed}
 use Rattle.link.specs.Demand.{Meets, whole, heldWords, Holds, refusalOf, Lowers, Replaces, Raises, EndsBy, Ending, by-drop, by-start-over, by-late-page, by-fourteen}
 use Rattle.link.specs.Joined.{Way, System, Event, calls, loseRequest, reach, answer, loseAnswer, arrive, sent, failed}
-use Rattle.link.specs.Link.{called, step, run}
+use Rattle.link.specs.Link.{called, isUnsure, opens, lostOnArrival, step, run}
 use Rattle.link.specs.Needed.{answersNeeded, needed, withMessage, withArrival, newIn, newOf, onWay, beginsAnew, receivedBy, received, bringsNew}
 use Rattle.unharmed.specs.LastAnswer.{isLastHead, isLastOutcome, isLastOf, isLastAnswer}
 use Rattle.unharmed.proofs.Arriving.{gives-gave, answer-read, timely}
 use Rattle.unharmed.proofs.Arrival.{confirmed-first}
 use Rattle.unharmed.proofs.AtDock.{Inv}
+use Rattle.unharmed.proofs.Awaited.{and-no}
 use Rattle.unharmed.proofs.AtLaptop.{next-is, start-over-is, enter-is, exit-is, timer-is, error-is}
 use Rattle.unharmed.proofs.Course.{Carried, nothing, underWay, sure, arrived}
-use Rattle.unharmed.proofs.Invariant.{messageOf, fateOf, systemOf, Reached}
+use Rattle.unharmed.proofs.Invariant.{dockAt, messageOf, fateOf, systemOf, Reached}
 use Rattle.unharmed.proofs.Runs.{reaches-aside, answers-aside, loses-aside, sent-aside, failed-aside, Does, does, steps}
 use Rattle.progress.proofs.AtCalls.{Outcome, decided-outcome, drop-outcome}
 use Rattle.progress.proofs.OnArrival.{Comes}
 use Rattle.progress.proofs.Missing.{missing-most}
 use Rattle.progress.proofs.OthersArrive.{comes}
-use Rattle.progress.proofs.Tells.{Tells, needs-some}
+use Rattle.progress.proofs.Tells.{Tells, needs-some, finished-absent}
+
+-- no confirmation is lost with an answer that is not counted and opens nothing
+opens-none : (l after : Laptop) → after .candidate ≡ Absent → opens l after ≡ false
+unfolding opens
+opens-none l after e = rw e (and-no (awaitsIdentity (l .wait)))
+
+lost-timely : (l after : Laptop) (t : Standing) (x : Dock) (z : ℕ) → after .pages ≡ l .pages → after .candidate ≡ Absent →
+    cond (opens l after) 0 (lostOnArrival t (isUnsure l after x) z) ≡ z
+unfolding isUnsure
+lost-timely l after t x z e c = rw (opens-none l after c, e, le-ltb (l .pages) (l .pages) (omega arith)) (go t)
+  where
+    go : (s : Standing) → lostOnArrival s false z ≡ z
+    go Ready = refl
+    go (Asking r) = refl
+    go (Sending b) = refl
 
 module _ (modesOf : ℕ → List ℕ) (start : System) (meets : Meets modesOf (start .dock)) where
   abbrev d : Dock
@@ -47,6 +66,9 @@ module _ (modesOf : ℕ → List ℕ) (start : System) (meets : Meets modesOf (s
     pub raises : Raises modesOf d e s got
     pub replaces : Replaces modesOf d e s got
     pub ends-by : EndsBy modesOf d e s got
+    -- the last answer needed is no page
+    pub pages-kept : 0 < needed modesOf d got → needed modesOf d (receivedBy e s got) ≡ 0 → step modesOf e s .laptop .pages ≡ s .laptop .pages
+    pub lost-kept : 0 < needed modesOf d got → needed modesOf d (receivedBy e s got) ≡ 0 → step modesOf e s .lost ≡ s .lost
 
   -- an event with which nothing arrives
   module _ (e : Event) (s : System) (got : List Message) (does : Does modesOf start e s) (brings : bringsNew e s got ≡ false)
@@ -64,6 +86,8 @@ module _ (modesOf : ℕ → List ℕ) (start : System) (meets : Meets modesOf (s
           raises = λ h. absurd (omega (arith, number));
           replaces = (λ h x. absurd (omega (arith, number)), λ x. does .replaces .1 last);
           ends-by = λ x y. no-last (does .ends-by x y);
+          pages-kept = λ h x. absurd (omega (arith, number));
+          lost-kept = λ h x. absurd (omega (arith, number));
         }
 
     anew-tallies : receivedBy e s got ≡ [] → Tells modesOf d meets (step modesOf e s .laptop) [] →
@@ -78,6 +102,8 @@ module _ (modesOf : ℕ → List ℕ) (start : System) (meets : Meets modesOf (s
           raises = λ h. why (omega (arith, number));
           replaces = (λ h x. absurd (omega (arith, number, needs-some modesOf d meets)), λ x. does .replaces .1 last);
           ends-by = λ x y. no-last (does .ends-by x y);
+          pages-kept = λ h x. absurd (omega (arith, number, needs-some modesOf d meets));
+          lost-kept = λ h x. absurd (omega (arith, number, needs-some modesOf d meets));
         }
 
   -- a call
@@ -124,6 +150,7 @@ module _ (modesOf : ℕ → List ℕ) (start : System) (meets : Meets modesOf (s
   module _ (s : System) (got : List Message) (bytes : List ℕ) (x : Message) (read : readOutcome bytes ≡ accepted x) (way : onWay (s .fate) ≡ some bytes)
       (same-list : listed (s .dock) ≡ listed d) (does : Does modesOf start arrive s)
       (laptop-is : step modesOf arrive s .laptop ≡ heard (s .laptop) (s .memory) (readOutcome bytes) .step .laptop)
+      (lost-is : step modesOf arrive s .laptop .pages ≡ s .laptop .pages → step modesOf arrive s .laptop .candidate ≡ Absent → step modesOf arrive s .lost ≡ s .lost)
       (comes-as : Comes modesOf d meets (s .laptop) x got (heard (s .laptop) (s .memory) (accepted x))) where
     then-is : receivedBy arrive s got ≡ withMessage (s .laptop .wait) (listed d) (accepted x) got
     unfolding receivedBy
@@ -148,12 +175,15 @@ module _ (modesOf : ℕ → List ℕ) (start : System) (meets : Meets modesOf (s
     refused-is : refusalOf s (onWay (s .fate)) ≡ heard (s .laptop) (s .memory) (accepted x) .step .refusal
     refused-is = ap (refusalOf s) way ∙ ap (λ (o : Reading·Outcome). heard (s .laptop) (s .memory) o .step .refusal) read
 
+    laptop-now : step modesOf arrive s .laptop ≡ heard (s .laptop) (s .memory) (accepted x) .step .laptop
+    laptop-now = laptop-is ∙ ap (λ (o : Reading·Outcome). heard (s .laptop) (s .memory) o .step .laptop) read
+
     arrive-tallies : Tallies arrive s got
     arrive-tallies =
         record {
           tells-then =
               subst (λ (l : Laptop). Tells modesOf d meets l (receivedBy arrive s got))
-              (sym (laptop-is ∙ ap (λ (o : Reading·Outcome). heard (s .laptop) (s .memory) o .step .laptop) read))
+              (sym laptop-now)
               (subst (Tells modesOf d meets (heard (s .laptop) (s .memory) (accepted x) .step .laptop)) (sym then-is) (comes-as .tells-on));
           lowers = (
             λ b. ap (λ (n : ℕ). n + 1) number ∙ comes-as .lowered (sym new-is ∙ b),
@@ -162,6 +192,8 @@ module _ (modesOf : ℕ → List ℕ) (start : System) (meets : Meets modesOf (s
           raises = λ h. inr (why (comes-as .raised (omega (arith, number))));
           replaces = (λ h n. replaced h n (isLastAnswer arrive s) refl, λ h. unchanged h (isLastAnswer arrive s) refl);
           ends-by = λ a b. ended-so (does .ends-by a b);
+          pages-kept = λ h n. same-pages h n (isLastAnswer arrive s) refl;
+          lost-kept = λ h n. lost-is (same-pages h n (isLastAnswer arrive s) refl) (given-up n (comes-as .tells-on));
         }
       where
         why : (isLatePage (s .laptop) (x .head) ≡ true) ⊎ (heard (s .laptop) (s .memory) (accepted x) .step .refusal ≡ 14) → Ending s arrive
@@ -183,6 +215,16 @@ module _ (modesOf : ℕ → List ℕ) (start : System) (meets : Meets modesOf (s
             Holds (whole modesOf d) (step modesOf arrive s)
         replaced h n true e = does .replaces .0 e
         replaced h n false e = absurd (not-now (comes-as .other-comes (sym last-is ∙ e)) h n)
+
+        same-pages : 0 < needed modesOf d got → needed modesOf d (receivedBy arrive s got) ≡ 0 → (b : Bool) → isLastAnswer arrive s ≡ b →
+            step modesOf arrive s .laptop .pages ≡ s .laptop .pages
+        same-pages h n true e = ap (λ (l : Laptop). l .pages) laptop-now ∙ comes-as .pages-kept (sym last-is ∙ e)
+        same-pages h n false e = absurd (not-now (comes-as .other-comes (sym last-is ∙ e)) h n)
+
+        given-up : needed modesOf d (receivedBy arrive s got) ≡ 0 →
+            Tells modesOf d meets (heard (s .laptop) (s .memory) (accepted x) .step .laptop) (withMessage (s .laptop .wait) (listed d) (accepted x) got) →
+            step modesOf arrive s .laptop .candidate ≡ Absent
+        given-up n t = ap (λ (l : Laptop). l .candidate) laptop-now ∙ finished-absent modesOf d meets _ _ (sym number ∙ n) t
 
         unchanged : (needed modesOf d got ≡ 0) ⊎ (0 < needed modesOf d (receivedBy arrive s got)) → (b : Bool) → isLastAnswer arrive s ≡ b →
             heldWords (step modesOf arrive s) ≡ heldWords s
@@ -225,10 +267,12 @@ module _ (modesOf : ℕ → List ℕ) (start : System) (meets : Meets modesOf (s
     event-tallies arrive l m way q t (arrived b) z does i got tells = aside l m way q t (arrived b) z i got tells arrive does refl refl refl refl
     event-tallies arrive l m way q t (underWay a) z does i got tells =
         arrive-tallies _ got (messageBytes (messageOf modesOf d a)) (messageOf modesOf d a) (answer-read modesOf d meets a (i .fate-fits .1)) refl refl does refl
+        (λ e c. lost-timely l _ t (dockAt modesOf d q t) z e c)
         (comes modesOf d meets l m q t z (underWay a) (i .formed) (i .candidate-is) got a (i .fate-fits .1) (gives-gave modesOf d meets a q (i .fate-fits .0))
         (timely modesOf d meets old l m way q t z a i) tells)
     event-tallies arrive l m way q t (sure a) z does i got tells =
         arrive-tallies _ got (messageBytes (messageOf modesOf d a)) (messageOf modesOf d a) (answer-read modesOf d meets a (i .fate-fits .1)) refl refl does refl
+        (λ e c. ap (λ (b : Bool). cond b 0 z) (opens-none l _ c))
         (comes modesOf d meets l m q t z (sure a) (i .formed) (i .candidate-is) got a (i .fate-fits .1) (i .fate-fits .0)
         (confirmed-first (listed d) t q z a) tells)
 

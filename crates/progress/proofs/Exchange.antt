@@ -33,6 +33,7 @@ use Rattle.laptop_laws.specs.WellFormed.{Lent}
 use Rattle.link.specs.Joined.{Way, clear, request, Fate, gone, coming, confirmed, came, System, calls, reach, answer, arrive, sent}
 use Rattle.link.specs.Link.{wayAfter, called, handedOver, lostWith, isFair, brought, isUnsure, opens, step}
 use Rattle.link.specs.Needed.{identityAnswer, pageAnswer, emptyAnswer, modesAnswer}
+use Rattle.link.specs.Permits.{isConfirmed}
 use Rattle.unharmed.proofs.AtDock.{pageThen, request-turns, asking-at}
 use Rattle.unharmed.proofs.Bytes.{reads, handed-over, sent-out}
 use Rattle.unharmed.proofs.Confirming.{sent-dock}
@@ -40,12 +41,6 @@ use Rattle.unharmed.proofs.Course.{movesOn}
 use Rattle.unharmed.proofs.Hears.{not-short}
 use Rattle.unharmed.proofs.Invariant.{dockAt}
 use Rattle.progress.proofs.Shapes.{has-room}
-
-abbrev pub isConfirmed : Fate → Bool
-isConfirmed gone = false
-isConfirmed (coming bytes) = false
-isConfirmed (confirmed bytes) = true
-isConfirmed (came b) = false
 
 module _ (modesOf : ℕ → List ℕ) (d : Dock) (out : List ℕ) (room : 28 ≤ length out) where
   -- laptop and link, with the dock at a page

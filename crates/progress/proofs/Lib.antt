@@ -18,3 +18,4 @@ pub mod Advancing
 pub mod Stages
 pub mod LossFree
 pub mod DeadEnd
+pub mod Asking

@@ -41,7 +41,8 @@ use Rattle.progress.proofs.Advancing.{HoldsBase, Advance, onward, finis
 use Rattle.progress.proofs.Clean.{rested, listing, Clean, confirms, held-reaching, held-handed, held-arrived}
 use Rattle.progress.proofs.InOrder.{some-in-all}
 use Rattle.progress.proofs.Events.{tells-after}
-use Rattle.progress.proofs.Exchange.{isConfirmed, standing, wayOf, next-sends, identity-given}
+use Rattle.link.specs.Permits.{isConfirmed}
+use Rattle.progress.proofs.Exchange.{standing, wayOf, next-sends, identity-given}
 use Rattle.progress.proofs.Numbers.{open-number, empty-number}
 use Rattle.progress.proofs.Shapes.{identity-answer-shaped}
 use Rattle.progress.proofs.Stages.{advances}

@@ -23,14 +23,14 @@ module _ (modesOf : ℕ → List ℕ) (d : Dock) (meets : Meets modesOf d) (l : 
     pub open-number : (p : ℕ) → l .gathered .count ≡ p * 12 → 0 < length (listed d) → Tells modesOf d meets l got →
         (needed modesOf d got ≡ length (listed d) / 12 + 1 - p + length (listed d)) × (p * 12 ≤ length (listed d))
     open-number p count some (none-came e a) = absurd (false≢true (ap isOpen (sym a ∙ open-now)))
-    open-number p count some (all-came n z a w) = absurd (false≢true (ap isOpen (sym a ∙ open-now)))
+    open-number p count some (all-came n z a w k) = absurd (false≢true (ap isOpen (sym a ∙ open-now)))
     open-number p count some (pages-come n a same most pages come) =
         (omega (arith, still-needed modesOf d meets n 0 got come some, count, same), omega (arith, count, same, most))
     open-number p count some (modes-come a many h pages come) = absurd (false≢true (ap isOpen (sym a ∙ open-now)))
 
     pub empty-number : listed d ≡ [] → Tells modesOf d meets l got → (needed modesOf d got ≡ 1) × (l .gathered .count ≡ 0)
     empty-number empty (none-came e a) = absurd (false≢true (ap isOpen (sym a ∙ open-now)))
-    empty-number empty (all-came n z a w) = absurd (false≢true (ap isOpen (sym a ∙ open-now)))
+    empty-number empty (all-came n z a w k) = absurd (false≢true (ap isOpen (sym a ∙ open-now)))
     empty-number empty (pages-come n a same most pages come) =
         (nak-needed modesOf d meets n 0 got come empty, omega (arith, same, most, ap length empty))
     empty-number empty (modes-come a many h pages come) = absurd (false≢true (ap isOpen (sym a ∙ open-now)))
@@ -39,7 +39,7 @@ module _ (modesOf : ℕ → List ℕ) (d : Dock) (meets : Meets modesOf d) (l : 
   pub done-number : l .candidate ≡ Done → Tells modesOf d meets l got →
       (needed modesOf d got ≡ length (listed d) - l .filled) × (l .filled < length (listed d))
   done-number done-now (none-came e a) = absurd (false≢true (ap isAbsent (sym done-now ∙ a)))
-  done-number done-now (all-came n z a w) = absurd (false≢true (ap isAbsent (sym done-now ∙ a)))
+  done-number done-now (all-came n z a w k) = absurd (false≢true (ap isAbsent (sym done-now ∙ a)))
   done-number done-now (pages-come n a same most pages come) = absurd (false≢true (ap isOpen (sym done-now ∙ a)))
   done-number done-now (modes-come a many h pages come) =
       (omega (arith, still-needed modesOf d meets (length (listed d) / 12 + 1) (l .filled) got come many), h)

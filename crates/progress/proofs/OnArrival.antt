@@ -25,6 +25,7 @@ module _ (modesOf : ℕ → List ℕ) (d : Dock) (meets : Meets modesOf d) (l : 
     pub kept : new ≡ false → needed modesOf d got ≤ needed modesOf d after
     pub raised : needed modesOf d got < needed modesOf d after → (isLatePage l (x .head) ≡ true) ⊎ (r .step .refusal ≡ 14)
     pub last-comes : isLastHead l (x .head) ≡ true → (0 < needed modesOf d got) × (needed modesOf d after ≡ 0)
+    pub pages-kept : isLastHead l (x .head) ≡ true → r .step .laptop .pages ≡ l .pages
     pub other-comes : isLastHead l (x .head) ≡ false → (needed modesOf d got ≡ 0) ⊎ (0 < needed modesOf d after)
 
   abbrev pub Comes : Result → Type 0
@@ -50,13 +51,15 @@ module _ (modesOf : ℕ → List ℕ) (d : Dock) (meets : Meets modesOf d) (l : 
           kept = λ n. omega arith;
           raised = λ h. absurd (omega arith);
           last-comes = λ n. absurd (false≢true (sym last ∙ n));
+          pages-kept = λ n. absurd (false≢true (sym last ∙ n));
           other-comes = λ n. zero-or-more (needed modesOf d got);
         })
 
     pub comes-new : newIn (l .wait) (listed d) (accepted x) got ≡ true → withMessage (l .wait) (listed d) (accepted x) got ≡ x ∷ got →
         needed modesOf d (x ∷ got) + 1 ≡ needed modesOf d got → (isLastHead l (x .head) ≡ true → needed modesOf d (x ∷ got) ≡ 0) →
-        (isLastHead l (x .head) ≡ false → 0 < needed modesOf d (x ∷ got)) → Tells modesOf d meets (r .step .laptop) (x ∷ got) → Comes r
-    comes-new e f less last other t =
+        (isLastHead l (x .head) ≡ false → 0 < needed modesOf d (x ∷ got)) → (isLastHead l (x .head) ≡ true → r .step .laptop .pages ≡ l .pages) →
+        Tells modesOf d meets (r .step .laptop) (x ∷ got) → Comes r
+    comes-new e f less last other pages t =
         comes-to r true (x ∷ got) e f
         (record {
           tells-on = t;
@@ -64,6 +67,7 @@ module _ (modesOf : ℕ → List ℕ) (d : Dock) (meets : Meets modesOf d) (l : 
           kept = λ n. absurd (false≢true (sym n));
           raised = λ h. absurd (omega (arith, less));
           last-comes = λ n. (omega (arith, less), last n);
+          pages-kept = pages;
           other-comes = λ n. inr (other n);
         })
 
@@ -78,6 +82,7 @@ module _ (modesOf : ℕ → List ℕ) (d : Dock) (meets : Meets modesOf d) (l : 
           kept = λ n. omega (arith, same);
           raised = λ h. absurd (omega (arith, same));
           last-comes = λ n. absurd (false≢true (sym last ∙ n));
+          pages-kept = λ n. absurd (false≢true (sym last ∙ n));
           other-comes = λ n. inr (omega (arith, same, some));
         })
 
@@ -91,5 +96,6 @@ module _ (modesOf : ℕ → List ℕ) (d : Dock) (meets : Meets modesOf d) (l : 
           kept = λ n. missing-most got (answersNeeded modesOf d);
           raised = λ h. why;
           last-comes = λ n. absurd (false≢true (sym last ∙ n));
+          pages-kept = λ n. absurd (false≢true (sym last ∙ n));
           other-comes = λ n. inr (needs-some modesOf d meets);
         })

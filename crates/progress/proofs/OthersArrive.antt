@@ -100,11 +100,12 @@ module _ (modesOf : ℕ → List ℕ) (d : Dock) (meets : Meets modesOf d) (l : 
         subst (Comes modesOf d meets l (identityAnswer d) got) (sym (identity-heard l m (take (d .objects) (d .identity))))
         (comes-new modesOf d meets l (identityAnswer d) got _ (is-new (l .wait) list (identityAnswer d) got awaited refl few)
         (added (l .wait) list (identityAnswer d) got awaited few) less (λ x. absurd (false≢true (sym last ∙ x))) (λ x. more)
+        (λ x. absurd (false≢true (sym last ∙ x)))
         (pages-come 0 refl refl (omega arith) (omega (arith, pages, ap pagesIn e)) come))
 
     identity-arrives : Tells modesOf d meets l got → ComesWith identityAck
     identity-arrives (none-came e a) = identity-first e
-    identity-arrives (all-came e n a w) = absurd (false≢true (sym w ∙ ap awaitsIdentity waits))
+    identity-arrives (all-came e n a w k) = absurd (false≢true (sym w ∙ ap awaitsIdentity waits))
     identity-arrives (pages-come p a count most pages come) =
         absurd (false≢true (sym (ap isAbsent a) ∙ ap isAbsent (with-identity (l .candidate) (l .pages) (l .filled) (m .svids) (awaits l m formed identityRequest waits) .0)))
     identity-arrives (modes-come a s h k come) =
@@ -156,6 +157,7 @@ module _ (modesOf : ℕ → List ℕ) (d : Dock) (meets : Meets modesOf d) (l : 
             subst (Comes modesOf d meets l words got) (sym (modes-more l m svid (modesOf svid) places less))
             (comes-new modesOf d meets l words got _ (is-new (l .wait) list words got awaited refl few) (added (l .wait) list words got awaited few)
             (omega (arith, left, before)) (λ x. absurd (false≢true (sym last ∙ x))) (λ x. omega (arith, left, all-listed))
+            (λ x. absurd (false≢true (sym last ∙ x)))
             (modes-come done-now some (omega (arith, all-listed)) (omega (arith, pages)) now))
         go false b now left before listless few awaited =
             let least = ltb-false (l .filled + 1) (l .gathered .count) b in
@@ -163,12 +165,12 @@ module _ (modesOf : ℕ → List ℕ) (d : Dock) (meets : Meets modesOf d) (l : 
             let last : isLastHead l (words .head) ≡ true = head-last ∙ eq-eqb (l .filled + 1) (l .gathered .count) end in
             subst (Comes modesOf d meets l words got) (sym (modes-last l m svid (modesOf svid) places done-now least))
             (comes-new modesOf d meets l words got _ (is-new (l .wait) list words got awaited refl few) (added (l .wait) list words got awaited few)
-            (omega (arith, left, before)) (λ x. omega (arith, left, all-listed)) (λ x. absurd (false≢true (sym x ∙ last)))
-            (all-came (omega (arith, left, all-listed)) listless refl refl))
+            (omega (arith, left, before)) (λ x. omega (arith, left, all-listed)) (λ x. absurd (false≢true (sym x ∙ last))) (λ x. refl)
+            (all-came (omega (arith, left, all-listed)) listless refl refl (omega (arith, pages))))
 
     modes-arrive : Tells modesOf d meets l got → ComesWith (modesAck svid)
     modes-arrive (none-came e a) = absurd (false≢true (ap isAbsent (sym done-now ∙ a)))
-    modes-arrive (all-came e n a w) = absurd (false≢true (ap isAbsent (sym done-now ∙ a)))
+    modes-arrive (all-came e n a w k) = absurd (false≢true (ap isAbsent (sym done-now ∙ a)))
     modes-arrive (pages-come p a count most pages come) = absurd (false≢true (ap isOpen (sym done-now ∙ a)))
     modes-arrive (modes-come a some h k come) = modes-now some h k come
 
@@ -178,8 +180,8 @@ module _ (modesOf : ℕ → List ℕ) (d : Dock) (meets : Meets modesOf d) (l : 
     empty-open : l .candidate ≡ Open
     empty-open = nak-open modesOf d meets l m q t z v formed candidate shaped gave arrival waits
 
-    empty-now : (p : ℕ) → l .gathered .count ≡ p * 12 → p * 12 ≤ length list → Come modesOf d meets p 0 got → ComesWith listNak
-    empty-now p count most come =
+    empty-now : (p : ℕ) → l .gathered .count ≡ p * 12 → p * 12 ≤ length list → l .pages ≡ pagesIn got → Come modesOf d meets p 0 got → ComesWith listNak
+    empty-now p count most pages come =
         let last : isLastHead l (emptyAnswer .head) ≡ true = nak-last modesOf d meets l m q t z v formed candidate shaped gave arrival waits in
         let none = nak-comes modesOf d meets p 0 got come gave in
         let few : isTooMany list (emptyAnswer ∷ got) ≡ false = done-enough list (emptyAnswer ∷ got) (list-done list (emptyAnswer ∷ got) (none .1)) in
@@ -187,13 +189,13 @@ module _ (modesOf : ℕ → List ℕ) (d : Dock) (meets : Meets modesOf d) (l : 
         let empty : l .gathered .count ≡ 0 = omega (arith, count, most, ap length gave) in
         subst (Comes modesOf d meets l emptyAnswer got) (sym (svids-nak l m empty-open empty))
         (comes-new modesOf d meets l emptyAnswer got _ (is-new (l .wait) list emptyAnswer got awaited refl few) (added (l .wait) list emptyAnswer got awaited few)
-        (omega (arith, none .0, nak-needed modesOf d meets p 0 got come gave)) (λ x. none .0) (λ x. absurd (false≢true (sym x ∙ last)))
-        (all-came (none .0) (none .1) refl refl))
+        (omega (arith, none .0, nak-needed modesOf d meets p 0 got come gave)) (λ x. none .0) (λ x. absurd (false≢true (sym x ∙ last))) (λ x. refl)
+        (all-came (none .0) (none .1) refl refl (omega (arith, pages))))
 
     empty-arrives : Tells modesOf d meets l got → ComesWith listNak
     empty-arrives (none-came e a) = absurd (false≢true (ap isOpen (sym a ∙ empty-open)))
-    empty-arrives (all-came e n a w) = absurd (false≢true (ap isOpen (sym a ∙ empty-open)))
-    empty-arrives (pages-come p a count most pages come) = empty-now p count most come
+    empty-arrives (all-came e n a w k) = absurd (false≢true (ap isOpen (sym a ∙ empty-open)))
+    empty-arrives (pages-come p a count most pages come) = empty-now p count most pages come
     empty-arrives (modes-come a some h k come) = absurd (false≢true (ap isOpen (sym a ∙ empty-open)))
 
   -- what has come stays as it is
@@ -281,7 +283,7 @@ module _ (modesOf : ℕ → List ℕ) (d : Dock) (meets : Meets modesOf d) (l : 
 
       listing : isOpen (l .candidate) ≡ true → Tells modesOf d meets l got → 0 < missing (listAnswers list) got
       listing o (none-came e a) = absurd (false≢true (sym (ap isOpen a) ∙ o))
-      listing o (all-came e n a w) = absurd (false≢true (sym (ap isOpen a) ∙ o))
+      listing o (all-came e n a w k) = absurd (false≢true (sym (ap isOpen a) ∙ o))
       listing o (pages-come p a count most pages come) = open-left modesOf d meets p got most come
       listing o (modes-come a some h k come) = absurd (false≢true (sym (ap isOpen a) ∙ o))
 
@@ -305,7 +307,7 @@ module _ (modesOf : ℕ → List ℕ) (d : Dock) (meets : Meets modesOf d) (l : 
           (late-page (l .wait) list x got idle is-page
           (list-open list got (subst (λ (g : List Message). 0 < missing (listAnswers list) g) (sym e) (none-left modesOf d meets)))) ∙ sym e)
           (last-unfit l (x .head) unfit) (none-came e absent)
-      go true false is-page idle (all-came e n absent w) = alone (late-done (l .wait) list x got (list-done list got n))
+      go true false is-page idle (all-came e n absent w k) = alone (late-done (l .wait) list x got (list-done list got n))
       go true false is-page idle (pages-come p open-now count most pages come) =
           absurd (false≢true (sym early ∙ is-late l (x .head) idle open-now is-page))
       go true false is-page idle (modes-come done-now some h k come) =

@@ -114,7 +114,7 @@ module _ (modesOf : ℕ → List ℕ) (d : Dock) (meets : Meets modesOf d) (l : 
             subst (Comes modesOf d meets l answer got) (sym (page-more l m open-now fit (page list p) e (ltb-true (l .pages + 1) 200 b)))
             (comes-new modesOf d meets l answer got _ (is-new (l .wait) list answer got awaited new few) (added (l .wait) list answer got awaited few)
             (omega (arith, left, still-needed modesOf d meets n 0 got come gave)) (λ x. absurd (false≢true (sym not-last ∙ x)))
-            (λ x. omega (arith, left, gave))
+            (λ x. omega (arith, left, gave)) (λ x. absurd (false≢true (sym not-last ∙ x)))
             (pages-come (n + 1) refl (omega (arith, size, count)) (omega arith) (sym counted-in) come-now))
         go false b =
             fourteen (inl e) (ltb-false (l .pages + 1) 200 b)
@@ -165,7 +165,7 @@ module _ (modesOf : ℕ → List ℕ) (d : Dock) (meets : Meets modesOf d) (l : 
         (omega (arith, unfilled, length-append gathered (take k (halves (page list p))), length-take-le k (halves (page list p)) (fits-page .0), gave))))
         (comes-new modesOf d meets l answer got _ (is-new (l .wait) list answer got awaited new few) (added (l .wait) list answer got awaited few)
         (omega (arith, left, still-needed modesOf d meets n 0 got come gave)) (λ x. absurd (false≢true (sym not-last ∙ x)))
-        (λ x. omega (arith, left, gave))
+        (λ x. omega (arith, left, gave)) (λ x. absurd (false≢true (sym not-last ∙ x)))
         (modes-come refl gave (omega (arith, unfilled, gave)) (sym counted-in)
         (subst (λ (i : ℕ). Come modesOf d meets pagesInAll i (answer ∷ got)) (sym unfilled) come-now)))
 
@@ -186,7 +186,7 @@ module _ (modesOf : ℕ → List ℕ) (d : Dock) (meets : Meets modesOf d) (l : 
 
   pub page-arrives : Tells modesOf d meets l got → PageComes
   page-arrives (none-came e a) = absurd (false≢true (ap isOpen (sym a ∙ open-now)))
-  page-arrives (all-came e f a w) = absurd (false≢true (ap isOpen (sym a ∙ open-now)))
+  page-arrives (all-came e f a w k) = absurd (false≢true (ap isOpen (sym a ∙ open-now)))
   page-arrives (pages-come n a count most pages come) =
       taken-so n count most pages come
       (arrival .stands-at gathered (l .pages) p refl (open-is modesOf d meets l m q t z v formed candidate p shaped gave arrival waits .1))

@@ -57,6 +57,13 @@ empty-answer-shaped = refl
 pub page-answer-shaped : (list : List ℕ) (p : ℕ) → wellShaped (pageAnswer list p) ≡ true
 page-answer-shaped list p = page-shape _ (page-size list p .0) (page-size list p .1)
 
+-- no listed SVID is 0
+pub some-svid : (modesOf : ℕ → List ℕ) (d : Dock) → Meets modesOf d → (i : ℕ) → i < length (listed d) → 1 ≤ getD (listed d) i 0
+some-svid modesOf d meets i h = above (getD (listed d) i 0) (λ e. sound-no-zero (listed d) (meets .sound .list-sound) i h e)
+  where
+    above : (n : ℕ) → (n ≡ 0 → ⊥) → 1 ≤ n
+    above n f = omega arith
+
 module _ (modesOf : ℕ → List ℕ) (d : Dock) (meets : Meets modesOf d) (all : HasAll modesOf d) where
   identity-size : (3 ≤ length (take (d .objects) (d .identity))) × (length (take (d .objects) (d .identity)) ≤ 6)
   unfolding goodIdentity
@@ -79,14 +86,8 @@ module _ (modesOf : ℕ → List ℕ) (d : Dock) (meets : Meets modesOf d) (all 
     abbrev svid : ℕ
     svid = getD (listed d) i 0
 
-    some-svid : 1 ≤ svid
-    some-svid = above (λ e. sound-no-zero (listed d) (meets .sound .list-sound) i h e)
-      where
-        above : (svid ≡ 0 → ⊥) → 1 ≤ svid
-        above n = omega arith
-
     pub request-shaped : wellShaped (requestMessage (discover svid modesCommand)) ≡ true
-    request-shaped = modes-request-shaped svid some-svid (meets .svids-fit i)
+    request-shaped = modes-request-shaped svid (some-svid modesOf d meets i h) (meets .svids-fit i)
 
     pub modes-answer-shaped : wellShaped (modesAnswer modesOf svid) ≡ true
-    modes-answer-shaped = modes-shaped svid some-svid (meets .svids-fit i) modesOf (all .some-modes i h) (all .few-modes i h)
+    modes-answer-shaped = modes-shaped svid (some-svid modesOf d meets i h) (meets .svids-fit i) modesOf (all .some-modes i h) (all .few-modes i h)

@@ -58,12 +58,12 @@ isNothing (underWay a) = false
 isNothing (sure a) = false
 isNothing (arrived b) = false
 
-asks-svids : (l : Laptop) (svids : List ℕ) → l .candidate ≡ Open →
+pub asks-svids : (l : Laptop) (svids : List ℕ) → l .candidate ≡ Open →
     asksNext l svids (l .candidate) ≡ sends (requestMessage (discover pdSid svidsCommand)) (awaiting (discover pdSid svidsCommand) l)
 unfolding asksNext
 asks-svids l svids e = rw e
 
-asks-modes : (l : Laptop) (svids : List ℕ) → l .candidate ≡ Done →
+pub asks-modes : (l : Laptop) (svids : List ℕ) → l .candidate ≡ Done →
     asksNext l svids (l .candidate) ≡
     sends (requestMessage (discover (getD svids (l .filled) 0) modesCommand)) (awaiting (discover (getD svids (l .filled) 0) modesCommand) l)
 unfolding asksNext

@@ -20,7 +20,8 @@ module _ (modesOf : ℕ → List ℕ) (d : Dock) (meets : Meets modesOf d) where
   -- nothing has come; or all; or Identity and the first p pages; or also the last page and the modes of some SVIDs
   pub data Tells (l : Laptop) (got : List Message) : Type 0 where
     none-came : got ≡ [] → l .candidate ≡ Absent → Tells l got
-    all-came : needed modesOf d got ≡ 0 → missing (listAnswers (listed d)) got ≡ 0 → l .candidate ≡ Absent → awaitsIdentity (l .wait) ≡ false → Tells l got
+    all-came : needed modesOf d got ≡ 0 → missing (listAnswers (listed d)) got ≡ 0 → l .candidate ≡ Absent → awaitsIdentity (l .wait) ≡ false →
+        l .pages ≡ pagesIn got → Tells l got
     pages-come : (p : ℕ) → l .candidate ≡ Open → l .gathered .count ≡ p * 12 → p * 12 ≤ length (listed d) → l .pages ≡ pagesIn got →
         Come modesOf d meets p 0 got → Tells l got
     modes-come : l .candidate ≡ Done → 0 < length (listed d) → l .filled < length (listed d) → l .pages ≡ pagesIn got →
@@ -30,7 +31,7 @@ module _ (modesOf : ℕ → List ℕ) (d : Dock) (meets : Meets modesOf d) where
   pub tells-same : (l l′ : Laptop) (got : List Message) → l′ .candidate ≡ l .candidate → l′ .gathered ≡ l .gathered → l′ .filled ≡ l .filled →
       l′ .pages ≡ l .pages → (awaitsIdentity (l .wait) ≡ false → awaitsIdentity (l′ .wait) ≡ false) → Tells l got → Tells l′ got
   tells-same l l′ got c g f p w (none-came e a) = none-came e (c ∙ a)
-  tells-same l l′ got c g f p w (all-came e n a i) = all-came e n (c ∙ a) (w i)
+  tells-same l l′ got c g f p w (all-came e n a i k) = all-came e n (c ∙ a) (w i) (p ∙ k)
   tells-same l l′ got c g f p w (pages-come q a b h k t) = pages-come q (c ∙ a) (ap (λ x. x .count) g ∙ b) h (p ∙ k) t
   tells-same l l′ got c g f p w (modes-come a s h k t) =
       modes-come (c ∙ a) s (omega arith) (p ∙ k) (subst (λ (n : ℕ). Come modesOf d meets (length (listed d) / 12 + 1) n got) (sym f) t)
@@ -75,3 +76,17 @@ module _ (modesOf : ℕ → List ℕ) (d : Dock) (meets : Meets modesOf d) where
   pub modes-left-list : (f : ℕ) (got : List Message) → 0 < length (listed d) → Come modesOf d meets (length (listed d) / 12 + 1) f got →
       missing (listAnswers (listed d)) got ≡ 0
   modes-left-list f got some come = omega (arith, pages-left modesOf d meets (length (listed d) / 12 + 1) f got come some)
+
+  -- where none is missing any more there is no candidate, and all pages that came are counted
+  pub finished-absent : (l : Laptop) (got : List Message) → needed modesOf d got ≡ 0 → Tells l got → l .candidate ≡ Absent
+  finished-absent l got n (none-came e a) = a
+  finished-absent l got n (all-came e z a w k) = a
+  finished-absent l got n (pages-come p a count most pages come) = absurd (omega (arith, open-needed p got most come))
+  finished-absent l got n (modes-come a some h k come) =
+      absurd (omega (arith, still-needed modesOf d meets (length (listed d) / 12 + 1) (l .filled) got come some))
+
+  pub finished-pages : (l : Laptop) (got : List Message) → needed modesOf d got ≡ 0 → Tells l got → l .pages ≡ pagesIn got
+  finished-pages l got n (none-came e a) = absurd (omega (arith, needs-some, ap (needed modesOf d) e))
+  finished-pages l got n (all-came e z a w k) = k
+  finished-pages l got n (pages-come p a count most pages come) = pages
+  finished-pages l got n (modes-come a some h k come) = k

@@ -19,3 +19,4 @@ pub mod Arriving
 pub mod Runs
 pub mod Laws
 pub mod Premises
+pub mod Permitted

@@ -1,5 +1,5 @@
 -- The answers that a gathering needs, told from the dock's identity, list and modes, and those that have come in it. Of the laptop nothing is asked
--- but what it awaits.
+-- but what it awaits, whether a call sent something, and whether drop was accepted.
 use Prim.Native.Nat.{ℕ, zero, suc, _+_, _/_}
 use mathlib.Core.Bool.{Bool, false, cond, not, _&&_, _||_}
 use mathlib.Core.List.{List, [], _∷_, _++_}

@@ -1,4 +1,4 @@
--- The premises of demand 3 are met by what the calls make: a dock that was loaded, and a fresh laptop.
+-- The premises of demand 3 are met by what the calls make: a dock that was loaded, and a laptop that was fresh once.
 use mathlib.Core.Path.{_≡_, refl, ap, sym, subst}
 use mathlib.Core.Bool.{true}
 use mathlib.Core.List.{List}

@@ -4,7 +4,7 @@ use second::call::Call;
 use second::laptop::Candidate;
 use second::link_events::checks::{
     Demand, Observed, CHANGED_EARLY, ENDED_UNFINISHED, NEITHER_OLD_NOR_WHOLE, NOT_LOWERED,
-    NOT_PUBLISHED, REFUSED_UNFAIRLY, WRONG_SUM,
+    NOT_PUBLISHED, REFUSED_UNFAIRLY, WRONG_LIST, WRONG_SUM,
 };
 use second::link_events::generator::generate;
 use second::link_events::tally::{of_one_stream, Tally};
@@ -195,6 +195,35 @@ fn a_laptop_that_asks_again_for_what_has_come_gets_nowhere() {
     let event = Event::AnswerArrives;
     assert_eq!(demand.check(&event, outcome, stuck.clone()), Ok(()));
     assert_eq!(demand.check(&event, outcome, stuck), Err(NOT_LOWERED));
+}
+
+#[test]
+fn a_gathering_that_begins_anew_without_a_reason_is_noticed() {
+    let (system, mut demand) = after(begin(13, true), 1, &[]);
+    let mut asking = system.clone();
+    asking.take(&Event::Call(Call::StartOver));
+    let mut now = Observed::of(&system);
+    now.awaited = asking.laptop().awaited();
+    assert_eq!(demand.check(&NEXT, ACCEPTED, now), Err(ENDED_UNFINISHED));
+}
+
+#[test]
+fn a_list_that_has_come_whole_is_the_dock_s() {
+    let whole = || after(begin(13, true), 2, &EXCHANGE[..3]);
+    let event = Event::AnswerArrives;
+    assert_eq!(changed(whole(), event, unchanged), Ok(()));
+    let short = changed(whole(), event, |now| match &mut now.candidate {
+        Candidate::ListDone(gathered) => gathered.svids.truncate(12),
+        _ => unreachable!("the list is done"),
+    });
+    assert_eq!(short, Err(WRONG_LIST));
+    let open = after(begin(13, true), 2, &[])
+        .0
+        .laptop()
+        .candidate()
+        .clone();
+    let acknowledged = changed(whole(), event, |now| now.candidate = open);
+    assert_eq!(acknowledged, Err(WRONG_LIST));
 }
 
 #[test]

@@ -2,20 +2,20 @@
 //! new answer lowers the number still needed by 1, and what is held changes when it comes to 0 and
 //! then only; and the pages are as many as they must be.
 
-use super::needed::Needed;
+use super::needed::{Arrival, Needed};
 use super::{Event, Outcome, System};
 use crate::call::Call;
 use crate::laptop::Candidate;
 use crate::messages::{read, Request, IDENTITY};
 use crate::pages::PAGE_SVIDS;
-use crate::refusals::{ACCEPTED, NOT_AWAITED, NOT_WHOLE_OBJECTS, NO_END, VOIDED, WRONG_SHAPE};
+use crate::refusals::{ACCEPTED, NOT_WHOLE_OBJECTS, VOIDED, WRONG_SHAPE};
 
 pub const REFUSED_UNFAIRLY: &str = "a fair message was refused 1 to 5, or 8";
 pub const NEITHER_OLD_NOR_WHOLE: &str = "what is held is neither the old catalogue nor the whole";
 pub const NOT_PUBLISHED: &str = "the last answer needed did not make the whole catalogue held";
 pub const CHANGED_EARLY: &str = "what is held changed without the last answer needed";
 pub const NOT_LOWERED: &str = "a new answer did not lower the number still needed by 1";
-pub const LOWERED: &str = "the number still needed was lowered without a new answer";
+pub const WRONG_LIST: &str = "the list has come whole, and what is gathered is another";
 pub const WRONG_SUM: &str = "the page count is not pages and confirmations lost";
 pub const ENDED_UNFINISHED: &str = "a gathering ended unfinished without a reason";
 
@@ -35,7 +35,7 @@ pub struct Observed {
 pub struct Demand {
     old: Option<Vec<u8>>,
     whole: Vec<u8>,
-    svid_count: usize,
+    svids: Vec<u16>,
     needed: Needed,
     last: Observed,
 }
@@ -64,7 +64,7 @@ impl Demand {
         Demand {
             old: last.held.clone(),
             whole: system.data().catalogue_bytes(),
-            svid_count: system.data().svids.len(),
+            svids: system.data().svids.clone(),
             needed: Needed::by(system.data()),
             last,
         }
@@ -85,34 +85,39 @@ impl Demand {
         let before = std::mem::replace(&mut self.last, now);
         check_refusal(outcome)?;
         let was_needed = self.still_needed();
-        let is_new = self.receive(event, outcome, &before);
+        let arrival = self.receive(event, outcome, &before);
         let is_needed = self.still_needed();
-        check_number(was_needed, is_needed, is_new)?;
+        if arrival == Arrival::New && is_needed + 1 != was_needed {
+            return Err(NOT_LOWERED);
+        }
         let completes = was_needed > 0 && is_needed == 0;
         self.check_held(&before, completes)?;
+        self.check_list()?;
         self.check_sum()?;
-        let anew = was_needed == 0 || completes;
-        if !anew && !may_end_gathering(event, outcome, &before) {
+        let may_end = arrival == Arrival::Ends || is_given_up(event, outcome);
+        if was_needed > 0 && !completes && !may_end {
             self.check_goes_on(&before, is_needed > was_needed)?;
         }
         Ok(())
     }
 
-    /// Adds what has come with the event, and tells whether it is a new answer.
-    fn receive(&mut self, event: &Event, outcome: Outcome, before: &Observed) -> bool {
+    /// Adds what has come with the event.
+    fn receive(&mut self, event: &Event, outcome: Outcome, before: &Observed) -> Arrival {
         match event {
             Event::AnswerArrives => {
                 let answer = before.answer.as_deref().and_then(|bytes| read(bytes).ok());
-                answer.is_some_and(|message| self.needed.arrive(before.awaited, &message))
+                answer.map_or(Arrival::Other, |message| {
+                    self.needed.arrive(before.awaited, &message)
+                })
             }
             Event::Call(call) if outcome.refusal == Some(ACCEPTED) => {
                 let goes_out = self.last.awaits_identity() && before.awaited.is_none();
                 if matches!(call, Call::Drop) || goes_out {
                     self.needed.begin_anew();
                 }
-                false
+                Arrival::Other
             }
-            _ => false,
+            _ => Arrival::Other,
         }
     }
 
@@ -130,12 +135,23 @@ impl Demand {
         }
     }
 
-    /// Once a list of one SVID or more has come whole, up to the next Identity.
-    fn check_sum(&self) -> Result<(), &'static str> {
-        if self.needed.is_listing() || self.svid_count == 0 {
+    /// Once the list has come whole, until all modes have.
+    fn check_list(&self) -> Result<(), &'static str> {
+        if self.needed.is_listing() || self.still_needed() == 0 {
             return Ok(());
         }
-        let pages = self.svid_count / PAGE_SVIDS + 1 + self.last.confirmations_lost;
+        match &self.last.candidate {
+            Candidate::ListDone(gathered) if gathered.svids == self.svids => Ok(()),
+            _ => Err(WRONG_LIST),
+        }
+    }
+
+    /// Once a list of one SVID or more has come whole, up to the next Identity.
+    fn check_sum(&self) -> Result<(), &'static str> {
+        if self.needed.is_listing() || self.svids.is_empty() {
+            return Ok(());
+        }
+        let pages = self.svids.len() / PAGE_SVIDS + 1 + self.last.confirmations_lost;
         if self.last.page_count != pages || self.needed.pages() != pages {
             return Err(WRONG_SUM);
         }
@@ -159,23 +175,8 @@ fn check_refusal(outcome: Outcome) -> Result<(), &'static str> {
     }
 }
 
-/// A new answer lowers the number by exactly 1, and nothing else lowers it.
-fn check_number(was: usize, is: usize, is_new: bool) -> Result<(), &'static str> {
-    if is_new && is + 1 != was {
-        return Err(NOT_LOWERED);
-    }
-    if !is_new && is < was {
-        return Err(LOWERED);
-    }
-    Ok(())
-}
-
-/// Drop, start over, a late page with nothing awaited, and 14.
-fn may_end_gathering(event: &Event, outcome: Outcome, before: &Observed) -> bool {
-    match (event, outcome.refusal) {
-        (Event::Call(Call::Drop | Call::StartOver), Some(ACCEPTED)) => true,
-        (Event::AnswerArrives, Some(NOT_AWAITED)) => before.awaited.is_none(),
-        (Event::AnswerArrives, Some(NO_END)) => true,
-        _ => false,
-    }
+/// By drop or start over.
+fn is_given_up(event: &Event, outcome: Outcome) -> bool {
+    let is_accepted = outcome.refusal == Some(ACCEPTED);
+    is_accepted && matches!(event, Event::Call(Call::Drop | Call::StartOver))
 }

@@ -1,5 +1,5 @@
 //! The answers that a gathering still needs, told from the dock's data and from what has come in it.
-//! Of the laptop nothing is asked but what it awaits.
+//! Of the laptop nothing is asked but what it awaits; the caller says when a gathering begins anew.
 
 use super::Data;
 use crate::laptop::MOST_PAGES;
@@ -11,6 +11,16 @@ struct Answer {
     request: Request,
     kind: u8,
     objects: Vec<u32>,
+}
+
+/// What an arrival is to the gathering.
+#[derive(Clone, Copy, Debug, PartialEq, Eq)]
+pub enum Arrival {
+    /// Awaited, not BUSY, and no page that came before.
+    New,
+    /// A late page with nothing awaited while the list is open, or the 200th page without an end.
+    Ends,
+    Other,
 }
 
 pub struct Needed {
@@ -89,9 +99,8 @@ impl Needed {
         self.pages = 0;
     }
 
-    /// A message arrives at a laptop that awaits this. Whether it is a new answer of the gathering:
-    /// awaited, not BUSY, no page that came before, and not the two hundredth without an end.
-    pub fn arrive(&mut self, awaited: Option<Request>, message: &Message) -> bool {
+    /// A message arrives at a laptop that awaits this.
+    pub fn arrive(&mut self, awaited: Option<Request>, message: &Message) -> Arrival {
         let answer = Answer::of(message);
         let is_gathered = answer.request.command <= MODES && answer.kind != BUSY;
         if awaited == Some(answer.request) && is_gathered {
@@ -99,20 +108,23 @@ impl Needed {
         }
         if awaited.is_none() && answer.is_page() && self.is_listing() {
             self.begin_anew();
+            return Arrival::Ends;
         }
-        false
+        Arrival::Other
     }
 
-    fn add(&mut self, answer: Answer) -> bool {
+    fn add(&mut self, answer: Answer) -> Arrival {
         let place = self.in_all.iter().position(|needed| *needed == answer);
         let has_come = place.map(|place| std::mem::replace(&mut self.has_come[place], true));
         self.pages += usize::from(answer.is_page());
-        let is_too_many = self.pages >= MOST_PAGES && self.is_listing();
-        if is_too_many {
+        if self.pages >= MOST_PAGES && self.is_listing() {
             self.begin_anew();
+            return Arrival::Ends;
         }
-        let is_again = answer.is_page() && has_come == Some(true);
-        !is_again && !is_too_many
+        if answer.is_page() && has_come == Some(true) {
+            return Arrival::Other;
+        }
+        Arrival::New
     }
 
     fn missing(&self) -> impl Iterator<Item = &Answer> {

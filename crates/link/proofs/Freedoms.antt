@@ -27,9 +27,9 @@ use Rattle.link.specs.Joined.{System}
 use Rattle.link.specs.Link.{wayAfter, called, handedOver, isFair, brought, isUnsure, opens, step, run}
 use Rattle.link.specs.Cases.{after}
 use Rattle.link.specs.Freedoms.{computed, dockWith, start, numbersOf, held, seen, story, ran, refusals, refusing}
-use Rattle.link.specs.Freedoms.{sameLists, differingFrom, differing, holdsWhole, heldRunOf, withMarks, modeStory, modesRan, neededAlong, neededIn, neededAfter}
+use Rattle.link.specs.Freedoms.{sameLists, differingFrom, differing, holdsWhole, heldRunOf, withMarks, modeStory, modesRan, neededAlong, neededIn, neededAfter, otherDock, neededOther, newAlong, newAnswersIn}
 use Rattle.link.specs.Freedoms.{losses, confirmations, lateAnswers, policies, replacements, endings, modeRuns, needs, runs}
-use Rattle.link.specs.Needed.{listAnswers, sameMessage, isListing, isTooMany, isAnswer, isLate, withAnswer, withMessage, beginsAnew, receivedBy, received}
+use Rattle.link.specs.Needed.{listAnswers, sameMessage, isListing, isTooMany, isAnswer, isLate, withAnswer, withMessage, beginsAnew, receivedBy, received, isNew, newIn}
 use Rattle.laptop.specs.Marks.{placeOf, named, isEntered, markedBy, marksAfter}
 
 -- what is computed once is the same
@@ -47,7 +47,7 @@ held-is s =
 pub runs-hold : differing runs ≡ []
 unfolding
     losses confirmations lateAnswers policies replacements endings modeRuns needs runs dockWith start numbersOf held seen story ran refusals
-    refusing sameLists differingFrom holdsWhole heldRunOf withMarks modeStory modesRan neededAlong neededIn neededAfter after listAnswers sameMessage
+    refusing sameLists differingFrom holdsWhole heldRunOf withMarks modeStory modesRan neededAlong neededIn neededAfter otherDock neededOther newAlong newAnswersIn isNew newIn after listAnswers sameMessage
     isListing isTooMany isAnswer isLate withAnswer withMessage beginsAnew receivedBy received placeOf named isEntered markedBy marksAfter hasMode
     enterRefusal decideEnter exitRefusal decideExit turnedDown hearMode bytesOfObject objectsOf bytesOf headOf headerOf messageBytes readRefusal messageIn
     outcome readOutcome rowOf countsOf fits shape wellShaped writeRefusal written isIn soundList paired halves values page isLast readOff sameList isRepeat

@@ -40,7 +40,8 @@ use Rattle.catalogue.proofs.Laws.{refused-leaves}
 use Rattle.link.specs.Cases.{cases, caseL, given, said}
 use Rattle.link.specs.Demand.{Meets, AtRest, Begins, apart, OldOrWhole, Lowers, Replaces, Counts, Completes, Raises, EndsBy, NeverBad, RequestTaken}
 use Rattle.link.specs.Exchanges.{HasAll, LossFree, NoDeadEnd, NextAsks}
-use Rattle.link.specs.Freedoms.{runs, differing}
+use Rattle.link.specs.Freedoms.{runs}
+use Rattle.link.specs.Seeing.{differing}
 use Rattle.link.specs.Joined.{System, Event, calls}
 use Rattle.link.specs.Link.{step, run}
 use Rattle.link.specs.Needed.{needed, received, inAll}

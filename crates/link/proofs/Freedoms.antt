@@ -26,9 +26,8 @@ use Rattle.link.specs.Demand.{heldIn, heldWords}
 use Rattle.link.specs.Joined.{System}
 use Rattle.link.specs.Link.{wayAfter, called, handedOver, isFair, brought, isUnsure, opens, step, run}
 use Rattle.link.specs.Cases.{after}
-use Rattle.link.specs.Freedoms.{computed, dockWith, start, numbersOf, held, seen, story, ran, refusals, refusing}
-use Rattle.link.specs.Freedoms.{sameLists, differingFrom, differing, holdsWhole, heldRunOf, withMarks, modeStory, modesRan, neededAlong, neededIn, neededAfter, otherDock, neededOther, newAlong, newAnswersIn}
-use Rattle.link.specs.Freedoms.{losses, confirmations, lateAnswers, policies, replacements, endings, modeRuns, needs, runs}
+use Rattle.link.specs.Freedoms.{holdsWhole, heldRunOf, withMarks, modeStory, modesRan, neededAlong, neededIn, neededAfter, otherDock, neededOther, newAlong, newAnswersIn, losses, confirmations, lateAnswers, policies, replacements, endings, modeRuns, needs, runs}
+use Rattle.link.specs.Seeing.{computed, dockWith, start, numbersOf, held, seen, story, ran, refusals, refusing, sameLists, differingFrom, differing}
 use Rattle.link.specs.Needed.{listAnswers, sameMessage, isListing, isTooMany, isAnswer, isLate, withAnswer, withMessage, beginsAnew, receivedBy, received, isNew, newIn}
 use Rattle.laptop.specs.Marks.{placeOf, named, isEntered, markedBy, marksAfter}
 

@@ -8,3 +8,4 @@ pub mod Joined
 pub mod Link
 pub mod Needed
 pub mod Permits
+pub mod Seeing

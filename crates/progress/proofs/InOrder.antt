@@ -67,31 +67,25 @@ module _ (modesOf : ℕ → List ℕ) (d : Dock) (meets : Meets modesOf d) where
       }
 
   module _ (pages modes : ℕ) (got : List Message) (come : Come pages modes got) where
-    pub page-comes : pages < pagesInAll → Come (pages + 1) modes (pageAnswer list pages ∷ got)
+    -- page j comes, and the pages before `then` have come by then
+    with-page : (j then : ℕ) → j < pagesInAll → ((i : ℕ) → (eqb i j || ltb i pages) ≡ ltb i then) → Come then modes (pageAnswer list j ∷ got)
     unfolding sameMessage
-    page-comes h =
-        record {
-          identity-came = come .identity-came;
-          pages-came = λ i less.
-              ap₂ (λ (b c : Bool). b || c)
-              (same-page list (meets .svids-fit) (meets .sound .list-sound) i pages (omega arith) (omega arith)) (come .pages-came i less) ∙
-              before-next i pages;
-          modes-came = come .modes-came;
-          no-nak = come .no-nak;
-        }
-
-    pub page-comes-again : (j : ℕ) → j < pages → j < pagesInAll → Come pages modes (pageAnswer list j ∷ got)
-    unfolding sameMessage
-    page-comes-again j h few =
+    with-page j then few among =
         record {
           identity-came = come .identity-came;
           pages-came = λ i less.
               ap₂ (λ (b c : Bool). b || c)
               (same-page list (meets .svids-fit) (meets .sound .list-sound) i j (omega arith) (omega arith)) (come .pages-came i less) ∙
-              before-same i j pages h;
+              among i;
           modes-came = come .modes-came;
           no-nak = come .no-nak;
         }
+
+    pub page-comes : pages < pagesInAll → Come (pages + 1) modes (pageAnswer list pages ∷ got)
+    page-comes few = with-page pages (pages + 1) few (λ i. before-next i pages)
+
+    pub page-comes-again : (j : ℕ) → j < pages → j < pagesInAll → Come pages modes (pageAnswer list j ∷ got)
+    page-comes-again j h few = with-page j pages few (λ i. before-same i j pages h)
 
     pub modes-come : modes < length list → Come pages (modes + 1) (modesAnswer modesOf (getD list modes 0) ∷ got)
     unfolding sameMessage

@@ -14,7 +14,7 @@ PUBLIC = re.compile(r"^pub (?:use \w+::|fn )([a-z]\w*)", re.MULTILINE)
 PARTS = {
     f"{crate}::{name}"
     for crate, names in (
-        ("laptop", "held_list place_of set_at named marked unmarked refused turned ended dropped short_runs"),
+        ("laptop", "held_list place_of number_at modes_number six_bits named marked unmarked refused accepted ended dropped short_runs"),
         ("owner", "owner_refusal ask"),
         ("dock", "refused accepted standing_at send send_bare"),
     )

@@ -1,6 +1,5 @@
 // The dock end answers a request as policy says: document 01, "The dock end". The state is that of `dock`.
-ghost use mathlib.Core.Path.{_≡_};
-ghost use Rattle.dock.specs.Dock.{giveIdentity, givePage, giveModes, giveOther, declined, decidePolicy, decideAnswer, Stepped};
+ghost use Rattle.dock.specs.Dock.{giveIdentity, givePage, giveModes, giveOther, declined, decidePolicy, decidePolicyAnswer, Stepped};
 use dock::Dock;
 use dock::Policy;
 use dock::Standing;
@@ -22,7 +21,7 @@ use pages::first_svids;
 fn give_identity(dock: Dock, request: Request, out: &mut [u8]) -> Step
     ensures { λ r. ⌜ Stepped dock (giveIdentity dock request) (now (out .entry)) r (now (out .exit)) ⌝ }
 {
-    let n = dock.objects;
+    let n = dock.extent;
     if n < 3 {
         return refused(10, dock);
     }
@@ -105,8 +104,14 @@ fn decline(dock: Dock, request: Request, kind: u8, objects: &[u32], out: &mut [u
 }
 
 // Policy's answer to the request that it names: refused 9 if it names another or none is waiting, then 10, then 11.
-pub fn answer(dock: Dock, policy: Policy, request: Request, objects: &[u32], out: &mut [u8]) -> Step
-    ensures { λ r. ⌜ Stepped dock (decideAnswer dock (dock .standing) policy request (now (objects .entry))) (now (out .entry)) r (now (out .exit)) ⌝ }
+pub fn policy_answer(
+    dock: Dock,
+    policy: Policy,
+    request: Request,
+    objects: &[u32],
+    out: &mut [u8],
+) -> Step
+    ensures { λ r. ⌜ Stepped dock (decidePolicyAnswer dock (dock .standing) policy request (now (objects .entry))) (now (out .entry)) r (now (out .exit)) ⌝ }
 {
     let standing = dock.standing;
     let Standing::Asking(asked) = standing else {

@@ -3,21 +3,21 @@ ghost use mathlib.Core.Path.{_≡_};
 ghost use Prim.Native.Nat.{_+_, _≤_};
 ghost use lib.ListN.{length, getD, take, set};
 ghost use lib.Seq.{sets};
-ghost use Rattle.answers.specs.Answers.{storeModes, hearModes, turnedDown, hearMode};
+ghost use Rattle.answers.specs.Answers.{StoringIs, MarkingIs, storeModes, hearModes, declinedAs, hearMode};
 ghost use Rattle.laptop.specs.Marks.{markedBy};
-ghost use Rattle.laptop.specs.State.{filledTo};
+ghost use Rattle.laptop.specs.State.{storedTo};
 use laptop::Laptop;
 use laptop::MODES_EACH;
 use laptop::Step;
 use laptop::Told;
 use laptop::Wait;
+use laptop::accepted;
 use laptop::dropped;
 use laptop::ended;
 use laptop::held_list;
 use laptop::marked;
 use laptop::place_of;
 use laptop::refused;
-use laptop::turned;
 use laptop::unmarked;
 use messages::ACK;
 use messages::BUSY;
@@ -26,12 +26,12 @@ use messages::NAK;
 use messages::Request;
 use messages::first_objects;
 
-fn filled_to(filled: u8, laptop: Laptop) -> Laptop
-    ensures { λ r. ⌜ r ≡ filledTo filled laptop ⌝ }
+fn stored_to(stored: u8, laptop: Laptop) -> Laptop
+    ensures { λ r. ⌜ r ≡ storedTo stored laptop ⌝ }
 {
     Laptop {
         wait: Wait::Nothing,
-        filled,
+        stored,
         ..laptop
     }
 }
@@ -59,16 +59,16 @@ fn put_words(run: &mut [u32], at: usize, words: &[u32])
 // Stores the modes of the first SVID without them.
 fn store_modes(laptop: Laptop, words: &[u32], modes: &mut [u8; 72], run: &mut [u32]) -> Step
     requires { ⌜ length (now words) ≤ 6 ⌝ }
-    ensures { λ r. ⌜ (r ≡ (storeModes laptop (now (words .entry)) (now (modes .entry)) (now (run .entry))) .step) × (now (modes .exit) ≡ (storeModes laptop (now (words .entry)) (now (modes .entry)) (now (run .entry))) .modes) × (now (run .exit) ≡ (storeModes laptop (now (words .entry)) (now (modes .entry)) (now (run .entry))) .run) ⌝ }
+    ensures { λ r. ⌜ StoringIs (storeModes laptop (now (words .entry)) (now (modes .entry)) (now (run .entry))) r (now (modes .exit)) (now (run .exit)) ⌝ }
 {
-    let filled = laptop.filled;
-    let place = filled as usize;
+    let stored = laptop.stored;
+    let place = stored as usize;
     if 72 <= place {
         return refused(8, dropped(laptop));
     }
     put_words(run, place * MODES_EACH, words);
     modes[place] = words.len() as u8;
-    turned(Told::Nothing, filled_to(filled + 1, laptop))
+    accepted(Told::Nothing, stored_to(stored + 1, laptop))
 }
 
 // An ACK is stored; NAK is 8; BUSY changes nothing more.
@@ -80,10 +80,10 @@ pub fn hear_modes(
     modes: &mut [u8; 72],
     run: &mut [u32],
 ) -> Step
-    ensures { λ r. ⌜ (r ≡ (hearModes laptop kind (take count (now (objects .entry))) (now (modes .entry)) (now (run .entry))) .step) × (now (modes .exit) ≡ (hearModes laptop kind (take count (now (objects .entry))) (now (modes .entry)) (now (run .entry))) .modes) × (now (run .exit) ≡ (hearModes laptop kind (take count (now (objects .entry))) (now (modes .entry)) (now (run .entry))) .run) ⌝ }
+    ensures { λ r. ⌜ StoringIs (hearModes laptop kind (take count (now (objects .entry))) (now (modes .entry)) (now (run .entry))) r (now (modes .exit)) (now (run .exit)) ⌝ }
 {
     if kind == BUSY {
-        return turned(Told::Nothing, ended(laptop));
+        return accepted(Told::Nothing, ended(laptop));
     }
     if kind != ACK {
         return refused(8, dropped(laptop));
@@ -106,9 +106,9 @@ fn put_mark(entered: &mut [u8], place: usize, command: u8, position: u8)
     entered[place] = unmarked(set, position);
 }
 
-// The request that an answer NAK or BUSY turned down.
-fn turned_down(kind: u8, request: Request) -> Told
-    ensures { λ r. ⌜ r ≡ turnedDown kind request ⌝ }
+// What policy is told of a request that NAK or BUSY declined.
+fn declined_as(kind: u8, request: Request) -> Told
+    ensures { λ r. ⌜ r ≡ declinedAs kind request ⌝ }
 {
     if kind == NAK {
         return Told::Nak(request);
@@ -124,17 +124,17 @@ pub fn hear_mode(
     held_svids: &[u16; 72],
     entered: &mut [u8],
 ) -> Step
-    ensures { λ r. ⌜ (r ≡ (hearMode laptop kind request (now («held_svids» .entry)) (now (entered .entry))) .step) × (now (entered .exit) ≡ (hearMode laptop kind request (now («held_svids» .entry)) (now (entered .entry))) .entered) ⌝ }
+    ensures { λ r. ⌜ MarkingIs (hearMode laptop kind request (now («held_svids» .entry)) (now (entered .entry))) r (now (entered .exit)) ⌝ }
 {
     if kind != ACK {
-        return turned(turned_down(kind, request), ended(laptop));
+        return accepted(declined_as(kind, request), ended(laptop));
     }
     let held = laptop.held;
     let list = held_list(held, held_svids);
     let place = place_of(request.svid, list);
     if list.len() <= place {
-        return turned(Told::Nothing, ended(laptop));
+        return accepted(Told::Nothing, ended(laptop));
     }
     put_mark(entered, place, request.command, request.position);
-    turned(Told::Nothing, ended(laptop))
+    accepted(Told::Nothing, ended(laptop))
 }

@@ -7,8 +7,8 @@ use driving::line::Line;
 use driving::line::print;
 use driving::line::with_half;
 use driving::line::with_text;
-use messages::Answer;
 use messages::Head;
+use messages::ReadAs;
 use messages::bytes_of;
 
 const HEADER: u32 = 0xFF01A104;
@@ -20,16 +20,16 @@ fn with_head(line: Line, head: Head) -> Line {
     with_named(line, b", position", head.position as u64)
 }
 
-fn with_answer(line: Line, answer: Answer) -> Line {
-    match answer {
-        Answer::Message(head, _) => with_head(line, head),
-        Answer::Refused(refusal) => with_refusal(line, refusal),
+fn with_outcome(line: Line, outcome: ReadAs) -> Line {
+    match outcome {
+        ReadAs::Message(head, _) => with_head(line, head),
+        ReadAs::Refused(refusal) => with_refusal(line, refusal),
     }
 }
 
 pub fn print_reading() {
     let bytes = bytes_of(HEADER);
-    let answer = reading::read(&bytes).answer;
+    let outcome = reading::read(&bytes).outcome;
     let line = with_objects(case(9), &bytes);
-    print(with_answer(line, answer));
+    print(with_outcome(line, outcome));
 }

@@ -58,7 +58,7 @@ pub fn reply(dock: Dock, policy: Policy, message: Message) -> Replied {
     };
     let modes = [MODE];
     let objects = first_objects(&modes, given(request.command));
-    let step = answering::answer(taken, policy, request, objects, &mut out);
+    let step = answering::policy_answer(taken, policy, request, objects, &mut out);
     let dock = step.dock;
     Replied {
         answer: Message {

@@ -48,7 +48,10 @@ catalogueBytes c = length (c .identity) ∷ bytesOf (c .identity) ++ entriesByte
 abbrev pub catalogueOf : List ℕ → List ℕ → List ℕ → List ℕ → Catalogue
 catalogueOf objects svids modes run = record { identity = objects; entries = entriesFrom 0 svids modes run }
 
--- an identity has at most so many objects
+-- an identity has 3 to 6 objects
+abbrev pub leastObjects : ℕ
+leastObjects = 3
+
 abbrev pub mostObjects : ℕ
 mostObjects = 6
 
@@ -80,10 +83,14 @@ abbrev pub heldCatalogue : Held → List ℕ → List ℕ → List ℕ → List 
 heldCatalogue Held·Nothing identity svids modes run = nothing
 heldCatalogue (Held·Catalogue size) identity svids modes run = holding (catalogueIn size identity svids modes run)
 
--- 11 for a run of too few words comes first, then 12, and 11 for a buffer without the room comes last
+-- 11 for a run of too few words comes first, then 12, and 11 for a buffer without the room comes last; fewer than three identity objects
+-- are no catalogue, and their number would be no kind of an identity
+unfoldable pub sizeRefusal : ℕ → ℕ → ℕ → ℕ
+sizeRefusal objects bytes room = cond (ltb objects leastObjects) 12 (cond (ltb room bytes) 11 0)
+
 unfoldable pub heldRefusal : HeldCatalogue → ℕ → ℕ
 heldRefusal nothing room = 12
-heldRefusal (holding c) room = cond (ltb room (length (catalogueBytes c))) 11 0
+heldRefusal (holding c) room = sizeRefusal (length (c .identity)) (length (catalogueBytes c)) room
 
 unfoldable pub catalogueRefusal : HeldCatalogue → ℕ → ℕ → ℕ
 catalogueRefusal held words room = cond (ltb words runWords) 11 (heldRefusal held room)

@@ -2,7 +2,7 @@
 ghost use mathlib.Core.Path.{_≡_};
 ghost use Prim.Native.Nat.{_+_, _*_, _≤_};
 ghost use lib.ListN.{length};
-ghost use Rattle.laptop.specs.Catalogue.{modesEach, runWords, modesNumber, modesAt, entriesFrom};
+ghost use Rattle.laptop.specs.Catalogue.{modesEach, runWords, modesAt, entriesFrom};
 ghost use Rattle.pages.specs.Lists.{mostSvids};
 ghost use Rattle.catalogue.specs.Bytes.{entryBytes, entriesBytes};
 ghost use Rattle.catalogue.specs.Records.{Put};
@@ -10,6 +10,7 @@ use crate::numbers::MODE_SIZE;
 use crate::numbers::put_number;
 use crate::numbers::put_words;
 use laptop::MODES_EACH;
+use laptop::modes_number;
 
 const SVID_KIND: u64 = 0x10;
 
@@ -21,27 +22,13 @@ fn put_entry(out: &mut [u8], at: usize, svid: u16, words: &[u32]) -> usize
     put_words(out, place, words, MODE_SIZE)
 }
 
-// How many modes the SVID at place i has.
-fn modes_number(modes: &[u8], i: usize) -> usize
-    ensures { λ r. ⌜ r ≡ modesNumber (now (modes .entry)) i ⌝ }
-{
-    if modes.len() <= i {
-        return 0;
-    }
-    let n = modes[i] as usize;
-    if MODES_EACH < n {
-        return MODES_EACH;
-    }
-    n
-}
-
 // The modes of the SVID at place i, by their numbers and the run.
 fn modes_at<'a>(modes: &[u8; 72], run: &'a [u32], i: usize) -> &'a [u32]
     requires { ⌜ i * modesEach + modesEach ≤ length (now run) ⌝ }
     ensures { λ r. ⌜ now r ≡ modesAt (now (modes .entry)) (now (run .entry)) i ⌝ }
 {
     let at = i * MODES_EACH;
-    let end = at + modes_number(modes, i);
+    let end = at + (modes_number(modes, i) as usize);
     &run[at..end]
 }
 

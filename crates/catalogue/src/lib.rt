@@ -5,7 +5,7 @@ ghost use lib.ListN.{length};
 ghost use lib.Seq.{sets};
 ghost use Rattle.laptop.specs.Catalogue.{runWords};
 ghost use Rattle.pages.specs.Lists.{mostSvids};
-ghost use Rattle.catalogue.specs.Bytes.{catalogueBytes, catalogueOf, mostObjects, mostBytes, heldCatalogue, CatalogueWritten};
+ghost use Rattle.catalogue.specs.Bytes.{catalogueBytes, catalogueOf, mostObjects, mostBytes, heldCatalogue, sizeRefusal, CatalogueWritten};
 
 mod entries;
 mod numbers;
@@ -28,6 +28,8 @@ pub struct Bytes {
 }
 
 const END_KIND: u64 = 0x00;
+
+const LEAST_OBJECTS: usize = 3;
 
 // How many bytes a catalogue takes.
 fn catalogue_length(objects: &[u32], svids: &[u16], modes: &[u8; 72], run: &[u32]) -> usize
@@ -60,6 +62,19 @@ fn refused(number: u8) -> Bytes
     }
 }
 
+// Too few identity objects are no catalogue: 12, then 11 for a short buffer.
+fn size_refusal(objects: usize, bytes: usize, room: usize) -> u8
+    ensures { λ r. ⌜ r ≡ sizeRefusal objects bytes room ⌝ }
+{
+    if objects < LEAST_OBJECTS {
+        return 12;
+    }
+    if room < bytes {
+        return 11;
+    }
+    0
+}
+
 // Writes the held catalogue: refused 11 for a short run, then 12, then 11 for a short buffer.
 pub fn write_catalogue(
     laptop: Laptop,
@@ -80,11 +95,12 @@ pub fn write_catalogue(
     let Held::Catalogue(size) = held else {
         return refused(12);
     };
-    let objects = first_objects(held_identity, size.objects as usize);
+    let objects = first_objects(held_identity, size.extent as usize);
     let svids = held_list(held, held_svids);
     let length = catalogue_length(objects, svids, held_modes, held_run);
-    if out.len() < length {
-        return refused(11);
+    let refusal = size_refusal(objects.len(), length, out.len());
+    if refusal != 0 {
+        return refused(refusal);
     }
     put_catalogue(out, objects, svids, held_modes, held_run);
     Bytes {

@@ -1,3 +1,9 @@
--- Laws on the states as numbers.
+-- Laws on the states as numbers, and on what is handed over.
+pub mod Accepting
+pub mod DockHanding
 pub mod DockNumbers
+pub mod LaptopHanding
 pub mod LaptopNumbers
+pub mod Laws
+pub mod Only
+pub mod Refusing

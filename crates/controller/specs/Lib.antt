@@ -1,4 +1,7 @@
--- The states of both ends as numbers.
+-- The states of both ends as numbers, and what each call makes of the numbers that it is lent.
+pub mod CatalogueCall
 pub mod Dock
+pub mod DockCalls
 pub mod Laptop
+pub mod LaptopCalls
 pub mod Told

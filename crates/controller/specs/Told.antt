@@ -1,14 +1,11 @@
 -- What a laptop's call hands over besides the refusal number, as seven numbers.
-use mathlib.Core.Path.{_≡_}
 use Prim.Native.Nat.{ℕ}
 use mathlib.Core.List.{List, [], _∷_}
 use Rattle.messages.specs.Requests.{attentionCommand}
 use Rattle.messages.specs.declared.request.Request.{Request}
 use Rattle.laptop.specs.declared.Notice.{Notice}
-use Rattle.laptop.specs.declared.Step.{Step}
 use Rattle.laptop.specs.declared.Told.{Told}
 use Rattle.laptop.specs.declared.Told.the-variants.{Nothing, Attention, Nak, Busy, Timer, ProtocolError}
-use Rattle.controller.specs.Laptop.{laptopNumbers}
 
 abbrev pub requestNumbers : ℕ → ℕ → Request → List ℕ
 requestNumbers length tag r = length ∷ tag ∷ r .svid ∷ r .command ∷ r .position ∷ 0 ∷ 0 ∷ []
@@ -24,9 +21,3 @@ toldNumbers length (Nak r) = requestNumbers length 2 r
 toldNumbers length (Busy r) = requestNumbers length 3 r
 toldNumbers length (Timer r) = requestNumbers length 4 r
 toldNumbers length (ProtocolError r) = requestNumbers length 5 r
-
--- a step is handed over: the refusal number, the state's numbers, and the seven
-pub record HandedOver (step : Step) (number : ℕ) (state handed : List ℕ) : Type 0 where
-  pub number-is : number ≡ step .refusal
-  pub state-is : state ≡ laptopNumbers (step .laptop)
-  pub handed-is : handed ≡ toldNumbers (step .length) (step .told)

@@ -1,7 +1,8 @@
 // The dock's state: its identity objects and its SVIDs in arrays, and seven numbers: how many objects, how many SVIDs and the present page; where
 // it stands (0 ready, 1 asking, 2 sending an answer, 3 sending a page), with the SVID, command and position of the request it asks for.
 ghost use mathlib.Core.Path.{_≡_};
-ghost use Rattle.controller.specs.Dock.{standingFrom, dockFrom, standingNumbers, dockNumbers, HandedOver};
+ghost use Rattle.controller.specs.Dock.{standingFrom, dockFrom, standingNumbers, dockNumbers};
+ghost use Rattle.controller.specs.DockCalls.{DockStep};
 use crate::numbers::low_byte;
 use crate::numbers::request_from;
 use dock::Dock;
@@ -31,7 +32,7 @@ pub(crate) fn dock_from(state: [u16; 7], identity: &[u32; 6], svids: &[u16; 72])
     let list = *svids;
     Dock {
         identity: objects,
-        objects: low_byte(state[0]),
+        extent: low_byte(state[0]),
         svids: list,
         count: low_byte(state[1]),
         page: low_byte(state[2]),
@@ -65,7 +66,7 @@ pub(crate) fn dock_numbers(dock: Dock) -> [u16; 7]
     let stands = dock.standing;
     let standing = standing_numbers(stands);
     [
-        dock.objects as u16,
+        dock.extent as u16,
         dock.count as u16,
         dock.page as u16,
         standing[0],
@@ -75,13 +76,15 @@ pub(crate) fn dock_numbers(dock: Dock) -> [u16; 7]
     ]
 }
 
-// Writes the new state and the number of bytes to send into what was lent, and gives the refusal number.
+// On acceptance writes the new state and the number of bytes to send into what was lent; gives the refusal number.
 pub(crate) fn hand_over(step: Step, state: &mut [u16; 7], length: &mut u8) -> u8
-    ensures { λ r. ⌜ HandedOver step r (now (length .exit)) (now (state .exit)) ⌝ }
+    ensures { λ r. ⌜ DockStep step r state length ⌝ }
 {
-    let dock = step.dock;
-    let after = dock_numbers(dock);
-    *state = after;
-    *length = step.length;
+    if step.refusal == 0 {
+        let dock = step.dock;
+        let after = dock_numbers(dock);
+        *state = after;
+        *length = step.length;
+    }
     step.refusal
 }

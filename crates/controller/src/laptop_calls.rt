@@ -1,12 +1,22 @@
 // The laptop's calls but those of its owner and its timers.
+ghost use mathlib.Core.Path.{_≡_};
+ghost use lib.ListN.{replicate};
+ghost use Rattle.laptop.specs.Marks.{reported};
+ghost use Rattle.laptop.specs.State.{memoryLent, freshLaptop};
+ghost use Rattle.controller.specs.Laptop.{laptopFrom, laptopNumbers};
+ghost use Rattle.controller.specs.LaptopCalls.{LaptopHears};
+ghost use Rattle.laws.specs.Lent.{lent, left};
 use crate::laptop_state::laptop_from;
-use crate::laptop_state::put_laptop;
-use crate::told::tell;
+use crate::laptop_state::laptop_numbers;
+use crate::told::hand_over;
 
 // A fresh laptop.
 #[no_mangle]
-pub extern "C" fn laptop_fresh(state: &mut [u16; 12], entered: &mut [u8; 72]) {
-    put_laptop(laptop::fresh(entered), state);
+pub extern "C" fn laptop_fresh(state: &mut [u16; 12], entered: &mut [u8; 72])
+    ensures { λ _. ⌜ (left state ≡ laptopNumbers freshLaptop) × (left entered ≡ replicate 72 0) ⌝ }
+{
+    let numbers = laptop_numbers(laptop::fresh(entered));
+    *state = numbers;
 }
 
 // A message from the dock.
@@ -24,7 +34,10 @@ pub extern "C" fn laptop_message(
     held_run: &mut [u32],
     entered: &mut [u8; 72],
     handed: &mut [u32; 7],
-) -> u8 {
+) -> u8
+    ensures { λ r. ⌜ LaptopHears (lent bytes) r state
+        (memoryLent svids modes identity run «held_svids» «held_modes» «held_identity» «held_run» entered) handed ⌝ }
+{
     let before = *state;
     let step = hearing::message(
         laptop_from(before),
@@ -39,11 +52,7 @@ pub extern "C" fn laptop_message(
         held_run,
         entered,
     );
-    let after = step.laptop;
-    let told = step.told;
-    put_laptop(after, state);
-    tell(step.length, told, handed);
-    step.refusal
+    hand_over(step, state, handed)
 }
 
 // How many modes of the SVID are entered.
@@ -53,7 +62,9 @@ pub extern "C" fn laptop_report(
     svid: u16,
     held_svids: &[u16; 72],
     entered: &[u8; 72],
-) -> u32 {
-    let before = *state;
-    laptop::report(laptop_from(before), svid, held_svids, entered)
+) -> u32
+    ensures { λ r. ⌜ r ≡ reported (laptopFrom (lent state) .held) (lent «held_svids») (lent entered) svid ⌝ }
+{
+    let numbers = *state;
+    laptop::report(laptop_from(numbers), svid, held_svids, entered)
 }

@@ -1,4 +1,8 @@
 // The owner's calls.
+ghost use lib.ListN.{length};
+ghost use Rattle.owner.specs.Owner.{decideNext, decideStartOver, decideDrop, decideEnter, decideExit};
+ghost use Rattle.controller.specs.LaptopCalls.{LaptopSends};
+ghost use Rattle.laws.specs.Lent.{lent};
 use crate::laptop_state::laptop_from;
 use crate::told::hand_over;
 
@@ -11,7 +15,9 @@ pub extern "C" fn laptop_next(
     held_run: &[u32],
     out: &mut [u8],
     handed: &mut [u32; 7],
-) -> u8 {
+) -> u8
+    ensures { λ r. ⌜ LaptopSends (λ l. decideNext l (lent svids) (lent entered) (length (lent run)) (length (lent «held_run»))) r state out handed ⌝ }
+{
     let before = *state;
     let step = owner::next(laptop_from(before), svids, entered, run, held_run, out);
     hand_over(step, state, handed)
@@ -25,7 +31,9 @@ pub extern "C" fn laptop_start_over(
     held_run: &[u32],
     out: &mut [u8],
     handed: &mut [u32; 7],
-) -> u8 {
+) -> u8
+    ensures { λ r. ⌜ LaptopSends (λ l. decideStartOver l (lent entered) (length (lent run)) (length (lent «held_run»))) r state out handed ⌝ }
+{
     let before = *state;
     let step = owner::start_over(laptop_from(before), entered, run, held_run, out);
     hand_over(step, state, handed)
@@ -38,7 +46,9 @@ pub extern "C" fn laptop_drop(
     held_run: &[u32],
     out: &mut [u8],
     handed: &mut [u32; 7],
-) -> u8 {
+) -> u8
+    ensures { λ r. ⌜ LaptopSends (λ l. decideDrop l (length (lent run)) (length (lent «held_run»))) r state out handed ⌝ }
+{
     let before = *state;
     let step = owner::drop(laptop_from(before), run, held_run, out);
     hand_over(step, state, handed)
@@ -56,7 +66,11 @@ pub extern "C" fn laptop_enter(
     held_run: &[u32],
     out: &mut [u8],
     handed: &mut [u32; 7],
-) -> u8 {
+) -> u8
+    ensures { λ r. ⌜ LaptopSends
+        (λ l. decideEnter l (lent «held_svids») (lent «held_modes») (lent entered) (length (lent run)) (length (lent «held_run»)) svid position)
+        r state out handed ⌝ }
+{
     let before = *state;
     let step = modes::enter(
         laptop_from(before),
@@ -84,7 +98,11 @@ pub extern "C" fn laptop_exit(
     held_run: &[u32],
     out: &mut [u8],
     handed: &mut [u32; 7],
-) -> u8 {
+) -> u8
+    ensures { λ r. ⌜ LaptopSends
+        (λ l. decideExit l (lent «held_svids») (lent «held_modes») (lent entered) (length (lent run)) (length (lent «held_run»)) svid position)
+        r state out handed ⌝ }
+{
     let before = *state;
     let step = modes::exit(
         laptop_from(before),

@@ -2,7 +2,8 @@
 // list is open, 2 its list is done); its identity objects, its SVIDs, and how many of them have their modes; the pages counted; what is held
 // (0 nothing, 1 a catalogue) with its identity objects and its SVIDs.
 ghost use mathlib.Core.Path.{_≡_};
-ghost use Rattle.controller.specs.Laptop.{sizeFrom, waitFrom, candidateFrom, heldFrom, laptopFrom, candidateNumber, waitNumbers, heldNumbers, laptopNumbers};
+ghost use Rattle.laws.specs.Lent.{lent, left};
+ghost use Rattle.controller.specs.Laptop.{sizeFrom, waitFrom, candidateFrom, heldFrom, laptopFrom, candidateNumber, waitNumbers, heldNumbers, laptopNumbers, numbersAfter};
 use crate::numbers::low_byte;
 use crate::numbers::request_from;
 use laptop::Candidate;
@@ -11,12 +12,13 @@ use laptop::Laptop;
 use laptop::Size;
 use laptop::Wait;
 use messages::Request;
+use taking::same;
 
-fn size_from(objects: u16, count: u16) -> Size
-    ensures { λ r. ⌜ r ≡ sizeFrom objects count ⌝ }
+fn size_from(extent: u16, count: u16) -> Size
+    ensures { λ r. ⌜ r ≡ sizeFrom extent count ⌝ }
 {
     Size {
-        objects: low_byte(objects),
+        extent: low_byte(extent),
         count: low_byte(count),
     }
 }
@@ -58,7 +60,7 @@ pub(crate) fn laptop_from(state: [u16; 12]) -> Laptop
         wait: wait_from(state[0], request_from(state[1], state[2], state[3])),
         candidate: candidate_from(state[4]),
         gathered: size_from(state[5], state[6]),
-        filled: low_byte(state[7]),
+        stored: low_byte(state[7]),
         pages: low_byte(state[8]),
         held: held_from(state[9], size_from(state[10], state[11])),
     }
@@ -93,11 +95,11 @@ fn held_numbers(held: Held) -> [u16; 3]
 {
     match held {
         Held::Nothing => [0, 0, 0],
-        Held::Catalogue(size) => [1, size.objects as u16, size.count as u16],
+        Held::Catalogue(size) => [1, size.extent as u16, size.count as u16],
     }
 }
 
-fn laptop_numbers(laptop: Laptop) -> [u16; 12]
+pub(crate) fn laptop_numbers(laptop: Laptop) -> [u16; 12]
     ensures { λ r. ⌜ r ≡ laptopNumbers laptop ⌝ }
 {
     let awaited = laptop.wait;
@@ -111,9 +113,9 @@ fn laptop_numbers(laptop: Laptop) -> [u16; 12]
         wait[2],
         wait[3],
         candidate_number(candidate),
-        laptop.gathered.objects as u16,
+        laptop.gathered.extent as u16,
         laptop.gathered.count as u16,
-        laptop.filled as u16,
+        laptop.stored as u16,
         laptop.pages as u16,
         held[0],
         held[1],
@@ -121,9 +123,14 @@ fn laptop_numbers(laptop: Laptop) -> [u16; 12]
     ]
 }
 
+// Writes a laptop's numbers where it is another than the lent ones stand for.
 pub(crate) fn put_laptop(laptop: Laptop, state: &mut [u16; 12])
-    ensures { λ _. ⌜ now (state .exit) ≡ laptopNumbers laptop ⌝ }
+    ensures { λ _. ⌜ left state ≡ numbersAfter (lent state) laptop ⌝ }
 {
+    let before = *state;
+    let stood = laptop_numbers(laptop_from(before));
     let numbers = laptop_numbers(laptop);
-    *state = numbers;
+    if !same(&stood, &numbers) {
+        *state = numbers;
+    }
 }

@@ -1,8 +1,8 @@
 // Both ends for firmware in C to link: each public call of the dock, the laptop and the catalogue over numbers that the caller lends.
 //
-// A state is lent as numbers, and so is what a call hands over. Any numbers are taken: a tag that is unknown counts as the first variant, and
-// of a number that is to be a byte the low eight bits count. Each call turns the numbers into the state, makes the call, writes the new state
-// back and gives the refusal number: what it hands over is what the call of its name promises.
+// A state is lent as numbers, and so is what a call hands over. Any numbers are taken; `specs/` says what an ill-formed one counts as. Each call turns
+// the numbers into the state, makes the call, writes the new state back and gives the refusal number. A refusal changes no lent number, unless
+// it changes the laptop's state.
 mod catalogue_call;
 mod dock_calls;
 mod dock_state;

@@ -2,7 +2,8 @@
 // is told (0 nothing, 1 an Attention, 2 NAK, 3 BUSY, 4 a timer, 5 a protocol error); the SVID, command and position of the request, or of the
 // Attention, with how many objects follow its header and that object.
 ghost use mathlib.Core.Path.{_≡_};
-ghost use Rattle.controller.specs.Told.{requestNumbers, noticeNumbers, toldNumbers, HandedOver};
+ghost use Rattle.controller.specs.LaptopCalls.{LaptopStep};
+ghost use Rattle.controller.specs.Told.{requestNumbers, noticeNumbers, toldNumbers};
 use crate::laptop_state::put_laptop;
 use laptop::Notice;
 use laptop::Step;
@@ -38,7 +39,7 @@ fn notice_numbers(length: u8, notice: Notice) -> [u32; 7]
     ]
 }
 
-pub(crate) fn handed_over(length: u8, told: Told) -> [u32; 7]
+fn handed_over(length: u8, told: Told) -> [u32; 7]
     ensures { λ r. ⌜ r ≡ toldNumbers length told ⌝ }
 {
     match told {
@@ -51,21 +52,16 @@ pub(crate) fn handed_over(length: u8, told: Told) -> [u32; 7]
     }
 }
 
-// Writes what is handed over into what was lent.
-pub(crate) fn tell(length: u8, told: Told, handed: &mut [u32; 7])
-    ensures { λ _. ⌜ now (handed .exit) ≡ toldNumbers length told ⌝ }
-{
-    let over = handed_over(length, told);
-    *handed = over;
-}
-
-// Writes the new state and what is handed over into what was lent, and gives the refusal number.
+// Writes the new state and on acceptance what is handed over into what was lent; gives the refusal number.
 pub(crate) fn hand_over(step: Step, state: &mut [u16; 12], handed: &mut [u32; 7]) -> u8
-    ensures { λ r. ⌜ HandedOver step r (now (state .exit)) (now (handed .exit)) ⌝ }
+    ensures { λ r. ⌜ LaptopStep step r state handed ⌝ }
 {
     let laptop = step.laptop;
-    let told = step.told;
     put_laptop(laptop, state);
-    tell(step.length, told, handed);
+    if step.refusal == 0 {
+        let told = step.told;
+        let over = handed_over(step.length, told);
+        *handed = over;
+    }
     step.refusal
 }

@@ -1,5 +1,6 @@
 -- The three demands, as theorems about the definitions that the promises of the code cite. Every public function promises that its result is the
 -- one that its definition gives, for all arguments: it has no `requires`, and it finishes (docs/PROMISES.md).
+use mathlib.Core.Logic.{_↔_}
 use mathlib.Core.Path.{_≡_}
 use mathlib.Core.Bool.{true, false}
 use mathlib.Core.List.{List, [], _++_}
@@ -14,8 +15,10 @@ use Rattle.messages.proofs.RoundTrip.{read-bytes}
 use Rattle.pages.specs.Lists.{soundList}
 use Rattle.pages.specs.Pages.{halves, page, isLast, remaining, readOff, pages, readPages}
 use Rattle.taking.specs.Taking.{verdict}
-use Rattle.taking.specs.declared.Verdict.the-variants.{More, Ends}
+use Rattle.taking.specs.Words.{RepeatPage, BadPage}
+use Rattle.taking.specs.declared.Verdict.the-variants.{Bad, More, Ends}
 use Rattle.taking.proofs.Gathering.{take-more, take-last}
+use Rattle.taking.proofs.Words.{bad-exactly}
 use Rattle.dock.specs.Data.{listed, goodData, loaded}
 use Rattle.dock.specs.Dock.{Decision, refusedBy, stepOf, bufferOf}
 use Rattle.dock.specs.Sound.{Sound}
@@ -28,12 +31,18 @@ use Rattle.owner.specs.Owner.{anyEntered}
 use Rattle.laptop.specs.declared.Candidate.the-variants.{Absent}
 use Rattle.laptop.specs.declared.Laptop.{Laptop}
 use Rattle.laptop.specs.declared.Wait.the-variants.{Nothing, Answer}
-use Rattle.laptop_laws.specs.Done.{Call, done, keptAfter}
+use Rattle.laptop_laws.specs.Effects.{Call, effectOf, keptAfter}
+use Rattle.laptop_laws.specs.Given.{Given}
 use Rattle.laptop_laws.specs.Refusing.{RefusedAs}
 use Rattle.laptop_laws.specs.WellFormed.{Lent, WellFormed}
+use Rattle.laptop_laws.proofs.Given.{given-exactly}
 use Rattle.laptop_laws.proofs.Laws.{keeps}
 use Rattle.laptop_laws.proofs.Leaves.{refusal-leaves}
 use Rattle.laptop_laws.proofs.Refusing.{refusal-state}
+use Rattle.dock_laws.specs.Effects.{Call as Dock·Call}
+use Rattle.dock_laws.specs.Effects.{effectOf as Dock·effectOf}
+use Rattle.dock_laws.specs.Given.{Given as Dock·Given}
+use Rattle.dock_laws.proofs.Given.{given-exactly as Dock·given-exactly}
 use Rattle.catalogue.specs.Bytes.{HeldCatalogue, CatalogueWritten}
 use Rattle.catalogue.specs.declared.Bytes.{Bytes}
 use Rattle.catalogue.proofs.Laws.{refused-leaves}
@@ -57,18 +66,32 @@ use Rattle.progress.proofs.LossFree.{loss-free}
 use Rattle.progress.proofs.Laws.{in-all, lowered-by-one, raised-by, replaced-at-zero, pages-counted, completed, ends-only-by}
 
 -- DEMAND 1. The laptop: a refusal changes no lent byte, whatever the call and whatever the state,
-pub laptop-refusal-leaves : (c : Call) (l : Laptop) (m : Memory) (out : List ℕ) → (done c l m out .step .refusal ≡ 0 → ⊥) →
-    (done c l m out .after ≡ m) × (done c l m out .buffer ≡ out)
+pub laptop-refusal-leaves : (c : Call) (l : Laptop) (m : Memory) (out : List ℕ) → (effectOf c l m out .step .refusal ≡ 0 → ⊥) →
+    (effectOf c l m out .after ≡ m) × (effectOf c l m out .buffer ≡ out)
 laptop-refusal-leaves = refusal-leaves
 
 -- and does to the state what 01 says of its number.
-pub laptop-refusal-state : (c : Call) (l : Laptop) (m : Memory) (out : List ℕ) → RefusedAs l (done c l m out .step)
+pub laptop-refusal-state : (c : Call) (l : Laptop) (m : Memory) (out : List ℕ) → RefusedAs c l (effectOf c l m out .step)
 laptop-refusal-state = refusal-state
 
 -- The dock: a refusal sends nothing, leaves the state alone and changes no lent byte.
 pub dock-refusal-leaves : (d : Dock) (x : Decision) (out : List ℕ) → (stepOf d x (length out) .refusal ≡ 0 → ⊥) →
     (stepOf d x (length out) ≡ refusedBy (stepOf d x (length out) .refusal) d) × (bufferOf x out ≡ out)
 dock-refusal-leaves = Dock·refusal-leaves
+
+-- Each number is given exactly when 01's line says, whatever the call, the state and the buffer: to the laptop,
+pub laptop-given-exactly : (c : Call) (l : Laptop) (m : Memory) (out : List ℕ) (number : ℕ) →
+    (effectOf c l m out .step .refusal ≡ number) ↔ Given number c l m out
+laptop-given-exactly = given-exactly
+
+-- to the dock,
+pub dock-given-exactly : (c : Dock·Call) (d : Dock) (out : List ℕ) (number : ℕ) → (number ≡ 0 → ⊥) →
+    (Dock·effectOf c d out .refusal ≡ number) ↔ Dock·Given c d out number
+dock-given-exactly = Dock·given-exactly
+
+-- and a page is bad exactly when it is no repeat and one of 01's four.
+pub bad-page-exactly : (list values : List ℕ) → (verdict list values ≡ Bad) ↔ ((RepeatPage list values → ⊥) × BadPage list values)
+bad-page-exactly = bad-exactly
 
 -- Writing the catalogue: a refusal writes nothing.
 pub catalogue-refusal-leaves : (held : HeldCatalogue) (words : ℕ) (out : List ℕ) (result : Bytes) (after : List ℕ) →
@@ -120,7 +143,7 @@ begins = begins-with
 -- Every call keeps a laptop well-formed, so a laptop that was fresh once, beside a dock that is ready, is at rest whenever it awaits nothing, whatever it
 -- holds by then.
 pub well-formed-after-every-call : (c : Call) (l : Laptop) (m : Memory) (out : List ℕ) → WellFormed l m →
-    WellFormed (done c l m out .step .laptop) (done c l m out .after)
+    WellFormed (effectOf c l m out .step .laptop) (effectOf c l m out .after)
 well-formed-after-every-call = keeps
 
 pub at-rest-after-any-calls : (history : List (Call × List ℕ)) (m : Memory) (d : Dock) → Lent m → m .entered ≡ replicate 72 0 → d .standing ≡ Ready →

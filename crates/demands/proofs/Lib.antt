@@ -1,3 +1,4 @@
--- The front page, and how tight the promises are.
+-- The front page, how tight the promises are, and that what is held is written.
 pub mod Demands
-pub mod Tight
+pub mod LaptopTight
+pub mod Written

@@ -16,7 +16,7 @@ use Rattle.messages.specs.declared.Head.{Head}
 use Rattle.pages.specs.Pages.{remaining, page, isLast}
 use Rattle.pages.specs.Lists.{soundList}
 use Rattle.dock.specs.Data.{listed, goodIdentity, goodData, loaded, withPage, withStanding}
-use Rattle.dock.specs.Dock.{refuses, turns, sends, decideLoad, reply, asking, sending, decideRequest, decideMessage, isEmpty, givePage, giveIdentity, giveModes, giveOther, bare, declined, decidePolicy, decideAnswer, moved, decideSent, decideFailed}
+use Rattle.dock.specs.Dock.{refuses, accepts, sends, decideLoad, reply, asking, sending, decideRequest, decideMessage, isEmpty, givePage, giveIdentity, giveModes, giveOther, bare, declined, decidePolicy, decidePolicyAnswer, moved, decideSent, decideFailed}
 use Rattle.messages.specs.Requests.{attentionCommand, requestOf, sameRequest}
 use Rattle.dock.specs.declared.Dock.{Dock}
 use Rattle.dock.specs.declared.Policy.{Policy}
@@ -58,7 +58,7 @@ module _ (identity svids : List ℕ) where
         leb-true _ _ (and-left (leb (length svids) 72) _ rest),
       )
 
-  pub load-good : (s : Standing) → s ≡ Ready → goodData identity svids ≡ true → decideLoad s identity svids ≡ turns (loaded identity svids)
+  pub load-good : (s : Standing) → s ≡ Ready → goodData identity svids ≡ true → decideLoad s identity svids ≡ accepts (loaded identity svids)
   unfolding decideLoad
   load-good s e good = ap (λ (x : Standing). decideLoad x identity svids) e ∙ rw good
 
@@ -84,7 +84,7 @@ module _ (r : Request) (d : Dock) where
   unfolding decideRequest
   request-past l h = simp (le-leb _ _ l, lt-leb _ _ h)
 
-  pub request-asked : 1 ≤ r .command → r .command ≤ 5 → decideRequest d r ≡ turns (asking r d)
+  pub request-asked : 1 ≤ r .command → r .command ≤ 5 → decideRequest d r ≡ accepts (asking r d)
   unfolding decideRequest
   request-asked l h = simp (le-leb _ _ l, le-leb _ _ h)
 
@@ -119,16 +119,16 @@ empty-some [] h = absurd (omega arith)
 empty-some (x ∷ l) h = refl
 
 module _ (d : Dock) (r : Request) where
-  pub identity-few : d .objects < 3 → giveIdentity d r ≡ refuses 10
+  pub identity-few : d .extent < 3 → giveIdentity d r ≡ refuses 10
   unfolding giveIdentity goodIdentity
   identity-few h = simp (lt-leb _ _ h)
 
-  pub identity-many : 3 ≤ d .objects → 6 < d .objects → giveIdentity d r ≡ refuses 10
+  pub identity-many : 3 ≤ d .extent → 6 < d .extent → giveIdentity d r ≡ refuses 10
   unfolding giveIdentity goodIdentity
   identity-many l h = simp (le-leb _ _ l, lt-leb _ _ h)
 
-  pub identity-given : 3 ≤ d .objects → d .objects ≤ 6 →
-      giveIdentity d r ≡ sends (reply r ack (take (d .objects) (d .identity))) (sending false d)
+  pub identity-given : 3 ≤ d .extent → d .extent ≤ 6 →
+      giveIdentity d r ≡ sends (reply r ack (take (d .extent) (d .identity))) (sending false d)
   unfolding giveIdentity goodIdentity
   identity-given l m = simp (le-leb _ _ l, le-leb _ _ m)
 
@@ -188,18 +188,18 @@ module _ (d : Dock) (r : Request) where
 
     module _ (policy : Policy) (s : Standing) where
       module _ (a : Request) (e : s ≡ Asking a) where
-        pub answer-other : sameRequest a r ≡ false → decideAnswer d s policy r objects ≡ refuses 9
-        unfolding decideAnswer
-        answer-other n = ap (λ (x : Standing). decideAnswer d x policy r objects) e ∙ rw n
+        pub answer-other : sameRequest a r ≡ false → decidePolicyAnswer d s policy r objects ≡ refuses 9
+        unfolding decidePolicyAnswer
+        answer-other n = ap (λ (x : Standing). decidePolicyAnswer d x policy r objects) e ∙ rw n
 
-        pub answer-policy : sameRequest a r ≡ true → (p : Policy) → policy ≡ p → decideAnswer d s policy r objects ≡ decidePolicy d p r objects
-        unfolding decideAnswer
+        pub answer-policy : sameRequest a r ≡ true → (p : Policy) → policy ≡ p → decidePolicyAnswer d s policy r objects ≡ decidePolicy d p r objects
+        unfolding decidePolicyAnswer
         answer-policy y p ep =
-            ap (λ (x : Standing). decideAnswer d x policy r objects) e ∙ rw y (ap (λ (x : Policy). decidePolicy d x r objects) ep)
+            ap (λ (x : Standing). decidePolicyAnswer d x policy r objects) e ∙ rw y (ap (λ (x : Policy). decidePolicy d x r objects) ep)
 
 pub answer-standing : (d : Dock) (r : Request) (objects : List ℕ) (policy : Policy) (s : Standing) → OneOf (0 ∷ 2 ∷ []) (tagOf the-type s) →
-    decideAnswer d s policy r objects ≡ refuses 9
-unfolding decideAnswer
+    decidePolicyAnswer d s policy r objects ≡ refuses 9
+unfolding decidePolicyAnswer
 answer-standing d r objects policy Ready k = refl
 answer-standing d r objects policy (Asking a) k = absurd (miss (0 ∷ 2 ∷ []) 1 tt k)
 answer-standing d r objects policy (Sending isPage) k = refl
@@ -218,11 +218,11 @@ module _ (d : Dock) where
   failed-standing (Asking a) k = refl
   failed-standing (Sending isPage) k = absurd (miss (0 ∷ 1 ∷ []) 2 tt k)
 
-  pub sent-moves : (s : Standing) (isPage : Bool) → s ≡ Sending isPage → decideSent d s ≡ turns (moved isPage d)
+  pub sent-moves : (s : Standing) (isPage : Bool) → s ≡ Sending isPage → decideSent d s ≡ accepts (moved isPage d)
   unfolding decideSent
   sent-moves s isPage e = ap (decideSent d) e
 
-  pub failed-ready : (s : Standing) (isPage : Bool) → s ≡ Sending isPage → decideFailed d s ≡ turns (moved false d)
+  pub failed-ready : (s : Standing) (isPage : Bool) → s ≡ Sending isPage → decideFailed d s ≡ accepts (moved false d)
   unfolding decideFailed
   failed-ready s isPage e = ap (decideFailed d) e
 

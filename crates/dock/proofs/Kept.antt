@@ -1,78 +1,98 @@
 -- The limits, kept by every decision.
 use mathlib.Core.Logic.{inl, inr}
-use mathlib.Core.Path.{_≡_, refl, ap, _∙_}
+use mathlib.Core.Path.{_≡_, refl, ap, sym, _∙_}
 use mathlib.Core.Bool.{Bool, true, false, cond, not, _&&_}
-use mathlib.Core.List.{List, _++_}
+use mathlib.Core.List.{List, [], _++_}
 use Prim.Native.Nat.{ℕ, _+_, _*_, _/_, _≤_}
 use native.Mathlib.Omega.{arith}
 use lib.Dec.{leb, eqb}
 use lib.ListN.{length, take, length-take, length-drop}
 use lib.Seq.{take-append-seam}
 use borrow.Author.Tests.{ltb-false, leb-true}
+use Rattle.laws.specs.Padded.{padded}
 use Rattle.laws.proofs.Lines.{and-left, and-right}
-use Rattle.messages.specs.Layout.{req, messageBytes}
-use Rattle.messages.specs.Table.{oneToFive}
+use Rattle.laws.proofs.Padded.{padded-at}
+use Rattle.messages.specs.Layout.{req, nak, Message, messageBytes}
+use Rattle.messages.specs.Table.{shape, oneToFive}
 use Rattle.messages.specs.Reading.{Outcome, accepted, refused}
-use Rattle.messages.specs.Writing.{writeRefusal}
+use Rattle.messages.specs.Writing.{wellShaped, writeRefusal}
+use Rattle.messages.specs.declared.Head.{Head}
 use Rattle.pages.specs.Pages.{remaining, isLast}
 use Rattle.pages.specs.Lists.{soundList}
 use Rattle.dock.specs.Data.{listed, goodIdentity, goodData, freshDock, loaded, withPage, withStanding}
-use Rattle.dock.specs.Dock.{Decision, refuses, turns, sends, refusedBy, acceptedBy, stepOf, decideLoad, asking, sending, decideRequest, decideMessage, isEmpty, givePage, giveIdentity, giveModes, giveOther, bare, decidePolicy, decideAnswer, moved, decideSent, decideFailed}
+use Rattle.dock.specs.Dock.{Decision, refuses, accepts, sends, refusedBy, acceptedBy, stepOf, decideLoad, reply, asking, sending, decideRequest, decideMessage, isEmpty, givePage, giveIdentity, giveModes, giveOther, bare, decidePolicy, decidePolicyAnswer, moved, decideSent, decideFailed}
 use Rattle.messages.specs.Requests.{identityCommand, svidsCommand, modesCommand, attentionCommand, requestOf, sameRequest}
-use Rattle.dock.specs.Sound.{Sound, SoundIn}
+use Rattle.dock.specs.Sound.{Asked, Sound}
 use Rattle.dock.specs.declared.Dock.{Dock}
 use Rattle.dock.specs.declared.Policy.{Policy}
 use Rattle.dock.specs.declared.Policy.the-variants.{Give, Nak, Busy}
 use Rattle.messages.specs.declared.request.Request.{Request}
 use Rattle.dock.specs.declared.Standing.{Standing}
 use Rattle.dock.specs.declared.Standing.the-variants.{Ready, Asking, Sending}
+use Rattle.dock.proofs.Decisions.{data-fits}
+use Rattle.dock.proofs.Shapes.{request-shape}
 
 pub fresh-sound : Sound freshDock
 unfolding freshDock soundList
-fresh-sound = record { identity-sound = inl refl; count-fits = omega arith; list-sound = refl; page-fits = omega arith }
+fresh-sound =
+    record {
+      identity-sound = inl refl;
+      identity-there = omega arith;
+      count-fits = omega arith;
+      list-sound = refl;
+      page-fits = omega arith;
+      asked-sound = tt;
+    }
 
 pub loaded-sound : (identity svids : List ℕ) → goodData identity svids ≡ true → Sound (loaded identity svids)
 unfolding goodData loaded
 loaded-sound identity svids good =
     let rest = and-right (goodIdentity (length identity)) _ good in
+    let there : length identity ≤ length (padded identity) = omega (arith, data-fits identity svids good .0, ap length (sym (padded-at identity))) in
     let list : take (length svids) (svids ++ _) ≡ svids = take-append-seam svids _ in
     record {
       identity-sound = inr (and-left (goodIdentity (length identity)) _ good);
+      identity-there = there;
       count-fits = leb-true _ _ (and-left (leb (length svids) 72) _ rest);
       list-sound = ap soundList list ∙ and-right (leb (length svids) 72) _ rest;
       page-fits = omega arith;
+      asked-sound = tt;
     }
 
 module _ (d : Dock) (sound : Sound d) where
-  pub standing-sound : (s : Standing) → Sound (withStanding s d)
-  standing-sound s =
+  standing-sound : (s : Standing) → Asked s → Sound (withStanding s d)
+  standing-sound s asked =
       record {
         identity-sound = sound .identity-sound;
+        identity-there = sound .identity-there;
         count-fits = sound .count-fits;
         list-sound = sound .list-sound;
         page-fits = sound .page-fits;
+        asked-sound = asked;
       }
 
-  page-sound : (p : ℕ) (s : Standing) → p ≤ d .count / 12 → Sound (withStanding s (withPage p d))
-  page-sound p s h =
+  page-sound : (p : ℕ) (s : Standing) → p ≤ d .count / 12 → Asked s → Sound (withStanding s (withPage p d))
+  page-sound p s h asked =
       record {
         identity-sound = sound .identity-sound;
+        identity-there = sound .identity-there;
         count-fits = sound .count-fits;
         list-sound = sound .list-sound;
         page-fits = h;
+        asked-sound = asked;
       }
 
-  pub asking-sound : (r : Request) → Sound (asking r d)
+  pub asking-sound : (r : Request) → Asked (Asking r) → Sound (asking r d)
   unfolding asking
-  asking-sound r = go (eqb (r .command) 1)
+  asking-sound r asked = go (eqb (r .command) 1)
     where
       go : (t : Bool) → Sound (withStanding (Asking r) (cond t (withPage 0 d) d))
-      go true = page-sound 0 (Asking r) (omega arith)
-      go false = standing-sound (Asking r)
+      go true = page-sound 0 (Asking r) (omega arith) asked
+      go false = standing-sound (Asking r) asked
 
   pub sending-sound : (isPage : Bool) → Sound (sending isPage d)
   unfolding sending
-  sending-sound isPage = standing-sound (Sending isPage)
+  sending-sound isPage = standing-sound (Sending isPage) tt
 
   -- there is a next page where the present one does not end the list
   next-page : isLast (listed d) (d .page) ≡ false → d .page + 1 ≤ d .count / 12
@@ -86,9 +106,15 @@ module _ (d : Dock) (sound : Sound d) where
   moved-sound isPage = go isPage (isLast (listed d) (d .page)) refl
     where
       go : (t l : Bool) → isLast (listed d) (d .page) ≡ l → Sound (withStanding Ready (cond (t && not l) (withPage (d .page + 1) d) d))
-      go true true e = standing-sound Ready
-      go true false e = page-sound (d .page + 1) Ready (next-page e)
-      go false l e = standing-sound Ready
+      go true true e = standing-sound Ready tt
+      go true false e = page-sound (d .page + 1) Ready (next-page e) tt
+      go false l e = standing-sound Ready tt
+
+-- a decision whose new state is sound
+abbrev pub SoundIn : Decision → Type 0
+SoundIn (refuses number) = Unit
+SoundIn (accepts next) = Sound next
+SoundIn (sends m next) = Sound next
 
 -- each decision's new state is sound
 either : (t : Bool) (a b : Decision) → SoundIn a → SoundIn b → SoundIn (cond t a b)
@@ -99,22 +125,28 @@ pub load-sound : (s : Standing) (identity svids : List ℕ) → SoundIn (decideL
 unfolding decideLoad
 load-sound Ready identity svids = go (goodData identity svids) refl
   where
-    go : (t : Bool) → goodData identity svids ≡ t → SoundIn (cond t (turns (loaded identity svids)) (refuses 10))
+    go : (t : Bool) → goodData identity svids ≡ t → SoundIn (cond t (accepts (loaded identity svids)) (refuses 10))
     go true e = loaded-sound identity svids e
     go false e = tt
 load-sound (Asking request) identity svids = tt
 load-sound (Sending isPage) identity svids = tt
 
 module _ (d : Dock) (sound : Sound d) where
-  request-sound : (r : Request) → SoundIn (decideRequest d r)
+  -- a request that a message has
+  request-sound : (h : Head) (count : ℕ) → shape h count ≡ true → SoundIn (decideRequest d (requestOf h))
   unfolding decideRequest
-  request-sound r = either (oneToFive (r .command)) _ _ (asking-sound d sound r) (sending-sound d sound false)
+  request-sound h count good = go (oneToFive (h .command)) refl
+    where
+      go : (t : Bool) → oneToFive (h .command) ≡ t → SoundIn (cond t (accepts (asking (requestOf h) d)) (sends (reply (requestOf h) nak []) (sending false d)))
+      go true e = asking-sound d sound (requestOf h) (e, request-shape h count good e)
+      go false e = sending-sound d sound false
 
-  pub message-sound : (o : Outcome) → SoundIn (decideMessage d o)
-  unfolding decideMessage
-  message-sound (refused number) = tt
-  message-sound (accepted m) =
-      either (eqb (m .head .kind) req && not (eqb (m .head .command) attentionCommand)) _ _ (request-sound (requestOf (m .head))) tt
+  pub message-sound : (o : Outcome) → ((m : Message) → o ≡ accepted m → wellShaped m ≡ true) → SoundIn (decideMessage d o)
+  unfolding decideMessage wellShaped
+  message-sound (refused number) good = tt
+  message-sound (accepted m) good =
+      either (eqb (m .head .kind) req && not (eqb (m .head .command) attentionCommand)) _ _
+      (request-sound (m .head) (length (m .objects) + 1) (good m refl)) tt
 
   module _ (r : Request) where
     sent-sound : (isPage : Bool) → Sound (sending isPage d)
@@ -126,7 +158,7 @@ module _ (d : Dock) (sound : Sound d) where
 
     identity-given-sound : SoundIn (giveIdentity d r)
     unfolding giveIdentity
-    identity-given-sound = either (goodIdentity (d .objects)) _ _ (sent-sound false) tt
+    identity-given-sound = either (goodIdentity (d .extent)) _ _ (sent-sound false) tt
 
     modes-given-sound : (objects : List ℕ) → SoundIn (giveModes d r objects)
     unfolding giveModes
@@ -149,8 +181,8 @@ module _ (d : Dock) (sound : Sound d) where
     policy-sound Nak objects = bare-sound objects _ (sent-sound false)
     policy-sound Busy objects = bare-sound objects _ (sent-sound false)
 
-    pub answer-sound : (s : Standing) (policy : Policy) (objects : List ℕ) → SoundIn (decideAnswer d s policy r objects)
-    unfolding decideAnswer
+    pub answer-sound : (s : Standing) (policy : Policy) (objects : List ℕ) → SoundIn (decidePolicyAnswer d s policy r objects)
+    unfolding decidePolicyAnswer
     answer-sound Ready policy objects = tt
     answer-sound (Sending isPage) policy objects = tt
     answer-sound (Asking a) policy objects = either (sameRequest a r) _ _ (policy-sound policy objects) tt
@@ -165,7 +197,7 @@ module _ (d : Dock) (sound : Sound d) where
   pub kept : (decision : Decision) → SoundIn decision → (room : ℕ) → Sound (stepOf d decision room .dock)
   unfolding stepOf
   kept (refuses number) s room = sound
-  kept (turns next) s room = s
+  kept (accepts next) s room = s
   kept (sends m next) s room = go (eqb (writeRefusal m room) 0)
     where
       go : (t : Bool) → Sound ((cond t (acceptedBy (length (messageBytes m)) next) (refusedBy (writeRefusal m room) d)) .dock)

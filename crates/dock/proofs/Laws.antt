@@ -12,12 +12,13 @@ use Rattle.messages.specs.Layout.{ack, Message, messageBytes}
 use Rattle.messages.specs.Table.{pdSid, rowOf, countsOf, fits, shape}
 use Rattle.messages.specs.Reading.{accepted, readOutcome}
 use Rattle.messages.specs.Writing.{wellShaped, writeRefusal, written}
+use Rattle.messages.proofs.Laws.{read-shape}
 use Rattle.messages.proofs.RoundTrip.{read-bytes}
 use Rattle.pages.specs.Pages.{page, pages, readPages}
 use Rattle.pages.proofs.Scanning.{sound-no-zero}
 use Rattle.pages.proofs.Laws.{page-size, page-below, read-all}
 use Rattle.dock.specs.Data.{listed}
-use Rattle.dock.specs.Dock.{Decision, refuses, turns, sends, refusedBy, acceptedBy, stepOf, bufferOf, Stepped, reply, decideLoad, decideMessage, decideAnswer, decideSent, decideFailed}
+use Rattle.dock.specs.Dock.{Decision, refuses, accepts, sends, refusedBy, acceptedBy, stepOf, bufferOf, Stepped, reply, decideLoad, decideMessage, decidePolicyAnswer, decideSent, decideFailed}
 use Rattle.messages.specs.Requests.{svidsCommand}
 use Rattle.dock.specs.Sound.{Sound}
 use Rattle.dock.specs.declared.Dock.{Dock}
@@ -32,12 +33,12 @@ module _ (d : Dock) (sound : Sound d) where
   load-keeps identity svids = kept d sound (decideLoad (d .standing) identity svids) (load-sound (d .standing) identity svids) 0
 
   pub message-keeps : (bytes : List ℕ) (room : ℕ) → Sound (stepOf d (decideMessage d (readOutcome bytes)) room .dock)
-  message-keeps bytes room = kept d sound (decideMessage d (readOutcome bytes)) (message-sound d sound (readOutcome bytes)) room
+  message-keeps bytes room = kept d sound (decideMessage d (readOutcome bytes)) (message-sound d sound (readOutcome bytes) (read-shape bytes)) room
 
   pub answer-keeps : (policy : Policy) (r : Request) (objects : List ℕ) (room : ℕ) →
-      Sound (stepOf d (decideAnswer d (d .standing) policy r objects) room .dock)
+      Sound (stepOf d (decidePolicyAnswer d (d .standing) policy r objects) room .dock)
   answer-keeps policy r objects room =
-      kept d sound (decideAnswer d (d .standing) policy r objects) (answer-sound d sound r (d .standing) policy objects) room
+      kept d sound (decidePolicyAnswer d (d .standing) policy r objects) (answer-sound d sound r (d .standing) policy objects) room
 
   pub sent-keeps : Sound (stepOf d (decideSent d (d .standing)) 0 .dock)
   sent-keeps = kept d sound (decideSent d (d .standing)) (confirmed-sound d sound (d .standing) .0) 0
@@ -57,7 +58,7 @@ pub refusal-leaves : (d : Dock) (decision : Decision) (out : List ℕ) → (step
     (stepOf d decision (length out) ≡ refusedBy (stepOf d decision (length out) .refusal) d) × (bufferOf decision out ≡ out)
 unfolding stepOf bufferOf
 refusal-leaves d (refuses number) out h = (refl, refl)
-refusal-leaves d (turns next) out h = absurd (h refl)
+refusal-leaves d (accepts next) out h = absurd (h refl)
 refusal-leaves d (sends m next) out h = go (eqb (writeRefusal m (length out)) 0) refl h
   where
     go : (t : Bool) → eqb (writeRefusal m (length out)) 0 ≡ t → (sendStep d next m (length out) t .refusal ≡ 0 → ⊥) →

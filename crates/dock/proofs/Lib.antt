@@ -2,4 +2,5 @@
 pub mod Decisions
 pub mod Kept
 pub mod Laws
+pub mod Shapes
 pub mod Steps

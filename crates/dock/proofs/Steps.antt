@@ -12,7 +12,7 @@ use Rattle.messages.specs.declared.Head.{Head}
 use Rattle.messages.proofs.Laws.{write-accepted}
 use Rattle.messages.proofs.Rule.{shape-count}
 use Rattle.messages.proofs.Stores.{length-message}
-use Rattle.dock.specs.Dock.{Decision, refuses, turns, sends, refusedBy, acceptedBy, stepOf, bufferOf, Stepped}
+use Rattle.dock.specs.Dock.{Decision, refuses, accepts, sends, refusedBy, acceptedBy, stepOf, bufferOf, Stepped}
 use Rattle.dock.specs.declared.Dock.{Dock}
 use Rattle.dock.specs.declared.Step.{Step}
 
@@ -25,10 +25,10 @@ refuse d decision number out s e is =
       buffer-is = sym (ap (λ (x : Decision). bufferOf x out) e);
     }
 
-pub turn : (d next : Dock) (decision : Decision) (out : List ℕ) (s : Step) → decision ≡ turns next →
+pub accept : (d next : Dock) (decision : Decision) (out : List ℕ) (s : Step) → decision ≡ accepts next →
     s ≡ acceptedBy 0 next → Stepped d decision out s out
 unfolding stepOf bufferOf
-turn d next decision out s e is =
+accept d next decision out s e is =
     record {
       step-is = is ∙ sym (ap (λ (x : Decision). stepOf d x (length out)) e);
       buffer-is = sym (ap (λ (x : Decision). bufferOf x out) e);

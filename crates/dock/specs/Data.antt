@@ -16,21 +16,21 @@ listed d = take (d .count) (d .svids)
 
 -- 3 to 6 identity objects; 0 to 72 SVIDs, none 0, all different
 unfoldable pub goodIdentity : ℕ → Bool
-goodIdentity objects = leb 3 objects && leb objects 6
+goodIdentity extent = leb 3 extent && leb extent 6
 
 unfoldable pub goodData : List ℕ → List ℕ → Bool
 goodData identity svids = goodIdentity (length identity) && (leb (length svids) mostSvids && soundList svids)
 
 -- a list in the array of 72, zeros behind it
-abbrev pub filled : List ℕ → List ℕ
-filled list = list ++ replicate (mostSvids - length list) 0
+abbrev pub inArray : List ℕ → List ℕ
+inArray list = list ++ replicate (mostSvids - length list) 0
 
 -- unloaded, the list and the identity are empty
 unfoldable pub freshDock : Dock
 freshDock =
     record {
       identity = replicate 6 0;
-      objects = 0;
+      extent = 0;
       svids = replicate 72 0;
       count = 0;
       page = 0;
@@ -41,8 +41,8 @@ unfoldable pub loaded : List ℕ → List ℕ → Dock
 loaded identity svids =
     record {
       identity = padded identity;
-      objects = length identity;
-      svids = filled svids;
+      extent = length identity;
+      svids = inArray svids;
       count = length svids;
       page = 0;
       standing = Ready;
@@ -53,7 +53,7 @@ abbrev pub withPage : ℕ → Dock → Dock
 withPage p d =
     record {
       identity = d .identity;
-      objects = d .objects;
+      extent = d .extent;
       svids = d .svids;
       count = d .count;
       page = p;
@@ -64,7 +64,7 @@ abbrev pub withStanding : Standing → Dock → Dock
 withStanding s d =
     record {
       identity = d .identity;
-      objects = d .objects;
+      extent = d .extent;
       svids = d .svids;
       count = d .count;
       page = d .page;

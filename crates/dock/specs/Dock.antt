@@ -24,7 +24,7 @@ use Rattle.dock.specs.declared.Step.{Step}
 -- is handed over
 pub data Decision : Type 0 where
   refuses : ℕ → Decision
-  turns : Dock → Decision
+  accepts : Dock → Decision
   sends : Message → Dock → Decision
 
 -- a refusal sends nothing and leaves the state alone
@@ -36,14 +36,14 @@ acceptedBy bytes d = record { refusal = 0; length = bytes; dock = d }
 
 unfoldable pub stepOf : Dock → Decision → ℕ → Step
 stepOf d (refuses number) room = refusedBy number d
-stepOf d (turns next) room = acceptedBy 0 next
+stepOf d (accepts next) room = acceptedBy 0 next
 stepOf d (sends m next) room =
     cond (eqb (writeRefusal m room) 0) (acceptedBy (length (messageBytes m)) next)
     (refusedBy (writeRefusal m room) d)
 
 unfoldable pub bufferOf : Decision → List ℕ → List ℕ
 bufferOf (refuses number) out = out
-bufferOf (turns next) out = out
+bufferOf (accepts next) out = out
 bufferOf (sends m next) out = written m out
 
 -- what a call promises: the refusal, the bytes to send and the state in one, and the whole buffer
@@ -53,7 +53,7 @@ pub record Stepped (d : Dock) (decision : Decision) (out : List ℕ) (step : Ste
 
 -- loading: 9 unless ready, then 10
 unfoldable pub decideLoad : Standing → List ℕ → List ℕ → Decision
-decideLoad Ready identity svids = cond (goodData identity svids) (turns (loaded identity svids)) (refuses 10)
+decideLoad Ready identity svids = cond (goodData identity svids) (accepts (loaded identity svids)) (refuses 10)
 decideLoad (Asking request) identity svids = refuses 9
 decideLoad (Sending isPage) identity svids = refuses 9
 
@@ -70,7 +70,7 @@ sending isPage d = withStanding (Sending isPage) d
 
 -- a request of 0 or 7..31 goes straight to a NAK
 unfoldable pub decideRequest : Dock → Request → Decision
-decideRequest d r = cond (oneToFive (r .command)) (turns (asking r d)) (sends (reply r nak []) (sending false d))
+decideRequest d r = cond (oneToFive (r .command)) (accepts (asking r d)) (sends (reply r nak []) (sending false d))
 
 -- a message: 6 for what is not a REQ, and for Attention
 unfoldable pub decideMessage : Dock → Outcome → Decision
@@ -90,7 +90,7 @@ givePage d r =
 
 unfoldable pub giveIdentity : Dock → Request → Decision
 giveIdentity d r =
-    cond (goodIdentity (d .objects)) (sends (reply r ack (take (d .objects) (d .identity))) (sending false d)) (refuses 10)
+    cond (goodIdentity (d .extent)) (sends (reply r ack (take (d .extent) (d .identity))) (sending false d)) (refuses 10)
 
 -- give brings 1 to 6 objects for Modes and none otherwise, else 10
 unfoldable pub giveModes : Dock → Request → List ℕ → Decision
@@ -115,10 +115,10 @@ decidePolicy d Nak r objects = declined d r nak objects
 decidePolicy d Busy r objects = declined d r busy objects
 
 -- policy's answer: 9 if it names another request, or none is waiting
-unfoldable pub decideAnswer : Dock → Standing → Policy → Request → List ℕ → Decision
-decideAnswer d Ready policy r objects = refuses 9
-decideAnswer d (Sending isPage) policy r objects = refuses 9
-decideAnswer d (Asking asked) policy r objects = cond (sameRequest asked r) (decidePolicy d policy r objects) (refuses 9)
+unfoldable pub decidePolicyAnswer : Dock → Standing → Policy → Request → List ℕ → Decision
+decidePolicyAnswer d Ready policy r objects = refuses 9
+decidePolicyAnswer d (Sending isPage) policy r objects = refuses 9
+decidePolicyAnswer d (Asking asked) policy r objects = cond (sameRequest asked r) (decidePolicy d policy r objects) (refuses 9)
 
 -- both "sent" and "failed" lead to ready, and are 9 without an answer. "Sent" on a page that does not end the list moves to the next page;
 -- "failed" moves nothing, as if no page had been sent
@@ -128,9 +128,9 @@ moved isPage d = withStanding Ready (cond (isPage && not (isLast (listed d) (d .
 unfoldable pub decideSent : Dock → Standing → Decision
 decideSent d Ready = refuses 9
 decideSent d (Asking request) = refuses 9
-decideSent d (Sending isPage) = turns (moved isPage d)
+decideSent d (Sending isPage) = accepts (moved isPage d)
 
 unfoldable pub decideFailed : Dock → Standing → Decision
 decideFailed d Ready = refuses 9
 decideFailed d (Asking request) = refuses 9
-decideFailed d (Sending isPage) = turns (moved false d)
+decideFailed d (Sending isPage) = accepts (moved false d)

@@ -21,7 +21,7 @@ pub enum Standing {
 // The dock's data: identity objects and their number (0: not loaded), SVIDs, their number and the present page; and where it stands.
 pub struct Dock {
     pub identity: [u32; 6],
-    pub objects: u8,
+    pub extent: u8,
     pub svids: [u16; 72],
     pub count: u8,
     pub page: u8,

@@ -9,7 +9,7 @@ pub fn fresh() -> Dock
 {
     Dock {
         identity: [0; 6],
-        objects: 0,
+        extent: 0,
         svids: [0; 72],
         count: 0,
         page: 0,

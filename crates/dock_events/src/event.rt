@@ -144,7 +144,7 @@ fn take_objects(
     if !fill_words(objects) {
         return cut(dock);
     }
-    answered(answering::answer(dock, policy, request, objects, output))
+    answered(answering::policy_answer(dock, policy, request, objects, output))
 }
 
 fn take_answer(policy: Policy, dock: Dock, output: &mut [u8]) -> Taken {

@@ -7,22 +7,22 @@ use events::body_length;
 use events::read_event;
 use laptop::Laptop;
 use laptop::Step;
+use streams::finish::Turn;
 use streams::input::fill;
 
-// A call that was read whole, or why there is none.
+// A call that was read whole, or the turn without one.
 pub enum Taken {
     Whole(Call),
-    Unknown,
-    Cut,
+    Without(Turn),
 }
 
 fn call_in(bytes: &[u8]) -> Taken {
     let found = read_event(bytes);
     let Found::Whole(event, _) = found else {
-        return Taken::Unknown;
+        return Taken::Without(Turn::Unknown);
     };
     let Event::Call(call) = event else {
-        return Taken::Unknown;
+        return Taken::Without(Turn::Unknown);
     };
     Taken::Whole(call)
 }
@@ -33,7 +33,7 @@ pub fn take_call(kind: u8) -> Taken {
     let end = 1 + body_length(kind);
     let event = &mut buffer[0..end];
     if !fill(&mut event[1..]) {
-        return Taken::Cut;
+        return Taken::Without(Turn::Cut);
     }
     call_in(event)
 }

@@ -55,7 +55,7 @@ pub fn with_candidate(line: Line, laptop: Laptop) -> Line {
     match candidate {
         Candidate::Absent => with_text(line, b" none"),
         Candidate::Open => with_part(with_text(line, b" open"), count),
-        Candidate::Done => with_part(with_part(with_text(line, b" done"), count), laptop.filled),
+        Candidate::Done => with_part(with_part(with_text(line, b" done"), count), laptop.stored),
     }
 }
 

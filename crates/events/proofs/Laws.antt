@@ -2,7 +2,7 @@
 use mathlib.Core.Path.{_≡_, refl, ap, sym, _∙_}
 use mathlib.Core.Bool.{Bool, true, false, cond}
 use mathlib.Core.List.{List, [], _∷_, _++_}
-use Prim.Native.Nat.{ℕ, zero, suc, _+_, _<_, _≤_}
+use Prim.Native.Nat.{ℕ, suc, _+_, _≤_}
 use native.Mathlib.Omega.{arith}
 use lib.Dec.{leb, eqb}
 use lib.ListN.{length, length-append, List·getD-append}
@@ -10,7 +10,7 @@ use borrow.Author.Tests.{leb-true, le-leb, eqb-true}
 use Rattle.events.specs.Events.{isMessage, isKnown, bodyLength, modeIn, callOf, eventOf, eventIn}
 use Rattle.events.specs.declared.Event.{Event}
 use Rattle.events.specs.declared.Found.{Found}
-use Rattle.events.specs.declared.Found.the-variants.{Whole, Unknown, Cut, Nothing}
+use Rattle.events.specs.declared.Found.the-variants.{Whole, Unknown, Cut}
 use Rattle.events.proofs.Bodies.{length-most}
 
 -- a result that the promise allows is the only one

@@ -6,21 +6,21 @@ use lib.ListN.{length, getD}
 use Rattle.laws.specs.Padded.{padded}
 use Rattle.laws.proofs.Padded.{padded-at}
 use Rattle.messages.specs.Layout.{Message}
-use Rattle.messages.specs.Reading.{Outcome, accepted, refused, shown, answerNumber}
-use Rattle.messages.specs.declared.Answer.{Answer}
-use Rattle.messages.specs.declared.Answer.the-variants.{Refused}
-use Rattle.messages.specs.declared.Answer.the-variants.{Message as Answer·Message}
+use Rattle.messages.specs.Reading.{Outcome, accepted, refused, shown, readNumber}
+use Rattle.messages.specs.declared.ReadAs.{ReadAs}
+use Rattle.messages.specs.declared.ReadAs.the-variants.{Refused}
+use Rattle.messages.specs.declared.ReadAs.the-variants.{Message as ReadAs·Message}
 use Rattle.messages.specs.declared.Head.{Head}
 use Rattle.messages.specs.declared.Reading.{Reading}
-use Rattle.messages.proofs.Laws.{answer-refused, answer-message}
+use Rattle.messages.proofs.Laws.{shown-refused, shown-message}
 use Rattle.exports.specs.Numbers.{numberOf, numbersOf}
 
-pub numbers-refused : (o : Outcome) (r : Reading) (n k : ℕ) (into : List ℕ) → r ≡ shown o → r .answer ≡ Refused n →
-    k ≡ answerNumber (r .answer) → (k ≡ numberOf o) × (into ≡ numbersOf o into)
+pub numbers-refused : (o : Outcome) (r : Reading) (n k : ℕ) (into : List ℕ) → r ≡ shown o → r .outcome ≡ Refused n →
+    k ≡ readNumber (r .outcome) → (k ≡ numberOf o) × (into ≡ numbersOf o into)
 unfolding numberOf numbersOf
 numbers-refused o r n k into e a number =
-    let is : o ≡ refused n = answer-refused o r n e a in
-    (number ∙ ap answerNumber a ∙ ap numberOf (sym is), ap (λ (x : Outcome). numbersOf x into) (sym is))
+    let is : o ≡ refused n = shown-refused o r n e a in
+    (number ∙ ap readNumber a ∙ ap numberOf (sym is), ap (λ (x : Outcome). numbersOf x into) (sym is))
 
 abbrev eleven : Head → ℕ → List ℕ → List ℕ
 eleven h n l =
@@ -31,11 +31,11 @@ eleven-numbers : (m : Message) (into : List ℕ) → eleven (m .head) (length (m
 unfolding numbersOf
 eleven-numbers m into = rw (← padded-at (m .objects))
 
-pub numbers-accepted : (o : Outcome) (r : Reading) (h : Head) (n : ℕ) (into : List ℕ) → r ≡ shown o → r .answer ≡ Answer·Message h n →
+pub numbers-accepted : (o : Outcome) (r : Reading) (h : Head) (n : ℕ) (into : List ℕ) → r ≡ shown o → r .outcome ≡ ReadAs·Message h n →
     (0 ≡ numberOf o) × (eleven h n (r .objects) ≡ numbersOf o into)
 unfolding numberOf
 numbers-accepted o r h n into e a =
-    let (m, is, head, count, objects) = answer-message o r h n e a in
+    let (m, is, head, count, objects) = shown-message o r h n e a in
     (sym (ap numberOf is), go m head count (r .objects) objects ∙ ap (λ (x : Outcome). numbersOf x into) (sym is))
   where
     go : (m : Message) → m .head ≡ h → length (m .objects) ≡ n → (l : List ℕ) → padded (m .objects) ≡ l → eleven h n l ≡ numbersOf (accepted m) into

@@ -2,7 +2,7 @@
 ghost use mathlib.Core.Path.{_≡_};
 ghost use Rattle.messages.specs.Reading.{readOutcome};
 ghost use Rattle.exports.specs.Numbers.{numberOf, numbersOf};
-use messages::Answer;
+use messages::ReadAs;
 
 // Reads a message. Accepted, it is 0, and `into` has SVID, command, type, position, number of objects after the header, and six objects;
 // refused, it is the number, and `into` stays.
@@ -12,9 +12,9 @@ pub extern "C" fn exports_read(bytes: &[u8], into: &mut [u32; 11]) -> u8
     ensures { λ r. ⌜ now (into .exit) ≡ numbersOf (readOutcome (now (bytes .entry))) (now (into .entry)) ⌝ }
 {
     let reading = reading::read(bytes);
-    let answer = reading.answer;
-    let Answer::Message(head, count) = answer else {
-        return reading::number(answer);
+    let outcome = reading.outcome;
+    let ReadAs::Message(head, count) = outcome else {
+        return reading::number(outcome);
     };
     let objects = reading.objects;
     *into = [

@@ -4,13 +4,13 @@ ghost use mathlib.Core.List.{List};
 ghost use Prim.Native.Nat.{ℕ, _+_, _*_, _/_, _%_, _≤_};
 ghost use lib.ListN.{length, take};
 ghost use lib.Seq.{sets};
-ghost use Rattle.gathering.specs.Gathering.{hearIdentity, gathering, unlessLast, sixHalves, hearSvids};
+ghost use Rattle.gathering.specs.Gathering.{OpeningIs, hearIdentity, GatheringIs, gathering, unlessLast, fullPage, sixHalves, noneGathered, hearSvids};
 ghost use Rattle.gathering.specs.Gathering.{takePage as Gathering·takePage};
-ghost use Rattle.laptop.specs.Calls.{turnedTo};
+ghost use Rattle.laptop.specs.Calls.{acceptedWith};
 ghost use Rattle.laptop.specs.State.{ended, gatheredTo};
 ghost use Rattle.laptop.specs.State.{opened as State·opened};
 ghost use Rattle.laptop.specs.State.{counted as State·counted};
-ghost use Rattle.laptop.specs.declared.Candidate.the-variants.{Open, Done};
+ghost use Rattle.laptop.specs.declared.Candidate.the-variants.{Done};
 ghost use Rattle.laptop.specs.declared.Told.the-variants.{Nothing};
 use crate::MOST_PAGES;
 use laptop::Candidate;
@@ -19,23 +19,23 @@ use laptop::Size;
 use laptop::Step;
 use laptop::Told;
 use laptop::Wait;
+use laptop::accepted;
 use laptop::dropped;
 use laptop::ended;
 use laptop::refused;
-use laptop::turned;
 use messages::ACK;
 use messages::BUSY;
 use pages::first_svids;
 use taking::Verdict;
 
-fn opened(objects: u8, laptop: Laptop) -> Laptop
-    ensures { λ r. ⌜ r ≡ State·opened objects laptop ⌝ }
+fn opened(extent: u8, laptop: Laptop) -> Laptop
+    ensures { λ r. ⌜ r ≡ State·opened extent laptop ⌝ }
 {
     Laptop {
         wait: Wait::Nothing,
         candidate: Candidate::Open,
-        gathered: Size { objects, count: 0 },
-        filled: 0,
+        gathered: Size { extent, count: 0 },
+        stored: 0,
         ..laptop
     }
 }
@@ -49,14 +49,14 @@ pub fn hear_identity(
     svids: &mut [u16; 72],
     identity: &mut [u32; 6],
 ) -> Step
-    ensures { λ r. ⌜ (r ≡ (hearIdentity laptop kind count (now (objects .entry)) (now (svids .entry)) (now (identity .entry))) .step) × (now (svids .exit) ≡ (hearIdentity laptop kind count (now (objects .entry)) (now (svids .entry)) (now (identity .entry))) .svids) × (now (identity .exit) ≡ (hearIdentity laptop kind count (now (objects .entry)) (now (svids .entry)) (now (identity .entry))) .identity) ⌝ }
+    ensures { λ r. ⌜ OpeningIs (hearIdentity laptop kind count (now (objects .entry)) (now (svids .entry)) (now (identity .entry))) r (now (svids .exit)) (now (identity .exit)) ⌝ }
 {
     if kind != ACK {
-        return turned(Told::Nothing, dropped(laptop));
+        return accepted(Told::Nothing, dropped(laptop));
     }
     *svids = [0u16; 72];
     *identity = *objects;
-    turned(Told::Nothing, opened(count, laptop))
+    accepted(Told::Nothing, opened(count, laptop))
 }
 
 // The page count goes up by 1, and stays at the greatest number there is.
@@ -76,11 +76,11 @@ fn counted(laptop: Laptop) -> Laptop
 fn gathered_to(candidate: Candidate, count: u8, laptop: Laptop) -> Laptop
     ensures { λ r. ⌜ r ≡ gatheredTo candidate count laptop ⌝ }
 {
-    let objects = laptop.gathered.objects;
+    let extent = laptop.gathered.extent;
     Laptop {
         wait: Wait::Nothing,
         candidate,
-        gathered: Size { objects, count },
+        gathered: Size { extent, count },
         ..laptop
     }
 }
@@ -131,24 +131,24 @@ fn put_values(svids: &mut [u16; 72], n: usize, values: &[u16])
 
 // A repeat adds nothing; as the 200th page it is refused.
 fn take_repeat(laptop: Laptop) -> Step
-    ensures { λ r. ⌜ ((svids : List ℕ) → gathering r svids ≡ unlessLast laptop svids (gathering (turnedTo Nothing (ended laptop)) svids)) ⌝ }
+    ensures { λ r. ⌜ ((svids : List ℕ) → gathering r svids ≡ unlessLast laptop svids (gathering (acceptedWith Nothing (ended laptop)) svids)) ⌝ }
 {
     if MOST_PAGES <= laptop.pages {
         return refused(14, dropped(laptop));
     }
-    turned(Told::Nothing, ended(laptop))
+    accepted(Told::Nothing, ended(laptop))
 }
 
 // A full page leaves the list open; as the 200th page it is refused.
 fn take_full(laptop: Laptop, n: usize, values: &[u16], svids: &mut [u16; 72]) -> Step
     requires { ⌜ (length (now values) ≡ 12) × (n + length (now values) ≤ 72) ⌝ }
-    ensures { λ r. ⌜ gathering r (now (svids .exit)) ≡ unlessLast laptop (now (svids .entry)) (gathering (turnedTo Nothing (gatheredTo Open (n + 12) laptop)) (sets (now (svids .entry)) n (now (values .entry)))) ⌝ }
+    ensures { λ r. ⌜ gathering r (now (svids .exit)) ≡ fullPage laptop (now (svids .entry)) (now (values .entry)) n ⌝ }
 {
     if MOST_PAGES <= laptop.pages {
         return refused(14, dropped(laptop));
     }
     put_values(svids, n, values);
-    turned(
+    accepted(
         Told::Nothing,
         gathered_to(Candidate::Open, (n + 12) as u8, laptop),
     )
@@ -157,10 +157,10 @@ fn take_full(laptop: Laptop, n: usize, values: &[u16], svids: &mut [u16; 72]) ->
 // The last page: its first k values end the list.
 fn take_end(laptop: Laptop, n: usize, k: u8, values: &[u16], svids: &mut [u16; 72]) -> Step
     requires { ⌜ (k ≤ length (now values)) × (n + k ≤ 72) ⌝ }
-    ensures { λ r. ⌜ gathering r (now (svids .exit)) ≡ gathering (turnedTo Nothing (gatheredTo Done (n + k) laptop)) (sets (now (svids .entry)) n (take k (now (values .entry)))) ⌝ }
+    ensures { λ r. ⌜ gathering r (now (svids .exit)) ≡ gathering (acceptedWith Nothing (gatheredTo Done (n + k) laptop)) (sets (now (svids .entry)) n (take k (now (values .entry)))) ⌝ }
 {
     put_values(svids, n, first_svids(values, k as usize));
-    turned(
+    accepted(
         Told::Nothing,
         gathered_to(Candidate::Done, (n as u8) + k, laptop),
     )
@@ -168,7 +168,7 @@ fn take_end(laptop: Laptop, n: usize, k: u8, values: &[u16], svids: &mut [u16; 7
 
 // A page is taken: what it adds is put behind what is gathered, once it is known not to be refused.
 fn take_page(laptop: Laptop, values: &[u16], svids: &mut [u16; 72]) -> Step
-    ensures { λ r. ⌜ (r ≡ (Gathering·takePage laptop (now (svids .entry)) (now (values .entry))) .step) × (now (svids .exit) ≡ (Gathering·takePage laptop (now (svids .entry)) (now (values .entry))) .svids) ⌝ }
+    ensures { λ r. ⌜ GatheringIs (Gathering·takePage laptop (now (svids .entry)) (now (values .entry))) r (now (svids .exit)) ⌝ }
 {
     let list = first_svids(svids, laptop.gathered.count as usize);
     let n = list.len();
@@ -180,6 +180,17 @@ fn take_page(laptop: Laptop, values: &[u16], svids: &mut [u16; 72]) -> Step
     }
 }
 
+// Is the list open, and nothing gathered?
+fn none_gathered(laptop: Laptop) -> bool
+    ensures { λ r. ⌜ r ≡ noneGathered laptop ⌝ }
+{
+    let candidate = laptop.candidate;
+    let Candidate::Open = candidate else {
+        return false;
+    };
+    laptop.gathered.count == 0
+}
+
 // An ACK is a page; a NAK with nothing gathered makes an empty list, later it is 8; BUSY changes nothing more.
 pub fn hear_svids(
     laptop: Laptop,
@@ -188,7 +199,7 @@ pub fn hear_svids(
     objects: &[u32; 6],
     svids: &mut [u16; 72],
 ) -> Step
-    ensures { λ r. ⌜ (r ≡ (hearSvids laptop kind (take (count * 2) (sixHalves (now (objects .entry)))) (now (svids .entry))) .step) × (now (svids .exit) ≡ (hearSvids laptop kind (take (count * 2) (sixHalves (now (objects .entry)))) (now (svids .entry))) .svids) ⌝ }
+    ensures { λ r. ⌜ GatheringIs (hearSvids laptop kind (take (count * 2) (sixHalves (now (objects .entry)))) (now (svids .entry))) r (now (svids .exit)) ⌝ }
 {
     if kind == ACK {
         let values = values_of(*objects);
@@ -196,10 +207,10 @@ pub fn hear_svids(
         return take_page(counted(laptop), first_svids(&values, n), svids);
     }
     if kind == BUSY {
-        return turned(Told::Nothing, ended(laptop));
+        return accepted(Told::Nothing, ended(laptop));
     }
-    if laptop.gathered.count == 0 {
-        return turned(Told::Nothing, gathered_to(Candidate::Done, 0, laptop));
+    if none_gathered(laptop) {
+        return accepted(Told::Nothing, gathered_to(Candidate::Done, 0, laptop));
     }
     refused(8, dropped(laptop))
 }

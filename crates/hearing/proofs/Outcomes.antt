@@ -10,10 +10,10 @@ use Rattle.laws.specs.Padded.{padded}
 use Rattle.laws.proofs.Padded.{take-padded}
 use Rattle.messages.specs.Layout.{Message}
 use Rattle.messages.specs.Reading.{Outcome, accepted, refused, readOutcome, shown}
-use Rattle.messages.specs.declared.Answer.the-variants.{Message as Answer·Message}
+use Rattle.messages.specs.declared.ReadAs.the-variants.{Message as ReadAs·Message}
 use Rattle.messages.specs.declared.Head.{Head}
 use Rattle.messages.specs.declared.Reading.{Reading}
-use Rattle.messages.proofs.Laws.{answer-message, read-count}
+use Rattle.messages.proofs.Laws.{shown-message, read-count}
 use Rattle.hearing.specs.Hearing.{Result, only, hearRequest, fits, hearUnawaited, hearAnswer, hear, heard}
 use Rattle.hearing.proofs.Parts.{messageOf, first-object}
 use Rattle.laptop.specs.Calls.{refusedBy, shortRuns}
@@ -21,10 +21,10 @@ use Rattle.laptop.specs.State.{Memory}
 use Rattle.laptop.specs.declared.Laptop.{Laptop}
 
 -- what was read, as the code takes it apart: the head, the number of objects and six words
-module _ (bytes : List ℕ) (r : Reading) (h : Head) (count : ℕ) (shows : r ≡ shown (readOutcome bytes)) (is : r .answer ≡ Answer·Message h count) where
+module _ (bytes : List ℕ) (r : Reading) (h : Head) (count : ℕ) (shows : r ≡ shown (readOutcome bytes)) (is : r .outcome ≡ ReadAs·Message h count) where
   pub count-few : count ≤ 6
   count-few =
-      let a = answer-message (readOutcome bytes) r h count shows is in omega (arith, read-count bytes (a .0) (a .1), a .3)
+      let a = shown-message (readOutcome bytes) r h count shows is in omega (arith, read-count bytes (a .0) (a .1), a .3)
 
   objects-read : (x : Message) → readOutcome bytes ≡ accepted x → length (x .objects) ≡ count → padded (x .objects) ≡ r .objects →
       x .objects ≡ take count (r .objects)
@@ -32,17 +32,17 @@ module _ (bytes : List ℕ) (r : Reading) (h : Head) (count : ℕ) (shows : r �
 
   pub words-padded : padded (take count (r .objects)) ≡ r .objects
   words-padded =
-      let a = answer-message (readOutcome bytes) r h count shows is in
+      let a = shown-message (readOutcome bytes) r h count shows is in
       ap padded (sym (objects-read (a .0) (a .1) (a .3) (a .4))) ∙ a .4
 
   size-read : length (take count (r .objects)) ≡ count
   size-read =
-      let a = answer-message (readOutcome bytes) r h count shows is in
+      let a = shown-message (readOutcome bytes) r h count shows is in
       ap length (sym (objects-read (a .0) (a .1) (a .3) (a .4))) ∙ a .3
 
   is-read : readOutcome bytes ≡ accepted (messageOf h count (r .objects))
   is-read =
-      let a = answer-message (readOutcome bytes) r h count shows is in
+      let a = shown-message (readOutcome bytes) r h count shows is in
       a .1 ∙ ap₂ (λ (x : Head) (o : List ℕ). accepted (record { head = x; objects = o })) (a .2) (objects-read (a .0) (a .1) (a .3) (a .4))
 
 module _ (l : Laptop) (m : Memory) where
@@ -60,7 +60,7 @@ module _ (l : Laptop) (m : Memory) where
     heard-refused o number e = heard-long o (refused number) e
 
     -- a message, as the code takes it apart
-    module _ (bytes : List ℕ) (r : Reading) (h : Head) (count : ℕ) (shows : r ≡ shown (readOutcome bytes)) (is : r .answer ≡ Answer·Message h count) where
+    module _ (bytes : List ℕ) (r : Reading) (h : Head) (count : ℕ) (shows : r ≡ shown (readOutcome bytes)) (is : r .outcome ≡ ReadAs·Message h count) where
       heard-read : heard l m (readOutcome bytes) ≡ hear l m (accepted (messageOf h count (r .objects)))
       heard-read = heard-long (readOutcome bytes) (accepted (messageOf h count (r .objects))) (is-read bytes r h count shows is)
 

@@ -1,6 +1,6 @@
--- An awaited answer, part by part: what it brings, and the candidate settled.
+-- An awaited answer, part by part: what it brings, and whether the candidate is published.
 use mathlib.Core.Path.{_≡_, refl, ap, sym, _∙_}
-use mathlib.Core.Bool.{Bool, true, false, _&&_, false≢true}
+use mathlib.Core.Bool.{Bool, true, false, cond, _&&_, false≢true}
 use mathlib.Core.List.{List, [], _∷_, _++_}
 use Prim.Native.Nat.{ℕ, _*_, _<_, _≤_}
 use native.Mathlib.Omega.{arith}
@@ -15,10 +15,10 @@ use Rattle.messages.specs.declared.Head.{Head}
 use Rattle.messages.specs.declared.request.Request.{Request}
 use Rattle.pages.specs.Pages.{halves}
 use Rattle.gathering.specs.Gathering.{Opening, Gathering, hearIdentity, sixHalves, hearSvids}
-use Rattle.answers.specs.Answers.{Filling, Marking, hearModes, hearMode}
+use Rattle.answers.specs.Answers.{Storing, Marking, hearModes, hearMode}
 use Rattle.publishing.specs.Publishing.{isWhole, copied, withLaptop}
-use Rattle.hearing.specs.Hearing.{only, withOpening, settledStep, settledList, settledRun, settled, hearAnswer}
-use Rattle.hearing.specs.Parts.{bringsPart, hearPart}
+use Rattle.hearing.specs.Hearing.{only, withOpening, stepIfWhole, listIfWhole, runIfWhole, publishing, hearAnswer}
+use Rattle.hearing.specs.Parts.{bringsPart, hearPart, completes}
 use Rattle.laptop.specs.State.{Memory, memory, published}
 use Rattle.laptop.specs.declared.Laptop.{Laptop}
 use Rattle.laptop.specs.declared.Step.{Step}
@@ -74,31 +74,36 @@ module _ (l : Laptop) (m : Memory) (command kind count : ℕ) (words : List ℕ)
       hearPart l m command kind count words
   part-gathering e g heard svids es ev = rw (es, ev, heard, e)
 
-  pub part-filling : (command ≡ 1 → ⊥) → (command ≡ 2 → ⊥) → (f : Filling) → f ≡ hearModes l kind (take count words) (m .modes) (m .run) →
+  pub part-storing : (command ≡ 1 → ⊥) → (command ≡ 2 → ⊥) → (f : Storing) → f ≡ hearModes l kind (take count words) (m .modes) (m .run) →
       (modes run : List ℕ) → step ≡ f .step → modes ≡ f .modes → run ≡ f .run →
       only (memory (m .svids) modes (m .identity) run (m .heldSvids) (m .heldModes) (m .heldIdentity) (m .heldRun) (m .entered)) step ≡
       hearPart l m command kind count words
-  part-filling a b f heard modes run es em er = rw (es, em, er, heard, ne-eqb _ _ a, ne-eqb _ _ b)
+  part-storing a b f heard modes run es em er = rw (es, em, er, heard, ne-eqb _ _ a, ne-eqb _ _ b)
 
--- a candidate that is not whole is kept
-kept : (s : Step) (m : Memory) → isWhole (s .laptop) ≡ false → only m s ≡ settled (only m s)
-unfolding settledStep settledList settledRun
-kept s m e = rw e
+-- a candidate that is not whole is kept, and so is every one with BUSY
+kept : (kind : ℕ) (s : Step) (m : Memory) → completes kind (s .laptop) ≡ false → only m s ≡ publishing kind (only m s)
+unfolding publishing stepIfWhole listIfWhole runIfWhole
+kept kind s m e = go (eqb kind 3) refl e
+  where
+    go : (t : Bool) → eqb kind 3 ≡ t → cond t false (isWhole (s .laptop)) ≡ false → only m s ≡ publishing kind (only m s)
+    go true ek n = rw ek
+    go false ek n = rw (ek, n)
 
 -- Identity completes no candidate
 identity-kept : (l : Laptop) (m : Memory) (kind count : ℕ) (words : List ℕ) →
     withOpening m (hearIdentity l kind count words (m .svids) (m .identity)) ≡
-    settled (withOpening m (hearIdentity l kind count words (m .svids) (m .identity)))
-unfolding hearIdentity isWhole settledStep settledList settledRun
-identity-kept l m kind count words = go (eqb kind 1) refl
+    publishing kind (withOpening m (hearIdentity l kind count words (m .svids) (m .identity)))
+unfolding hearIdentity isWhole publishing stepIfWhole listIfWhole runIfWhole
+identity-kept l m kind count words = go (eqb kind 1) (eqb kind 3) refl refl
   where
-    go : (t : Bool) → eqb kind 1 ≡ t →
+    go : (t u : Bool) → eqb kind 1 ≡ t → eqb kind 3 ≡ u →
         withOpening m (hearIdentity l kind count words (m .svids) (m .identity)) ≡
-        settled (withOpening m (hearIdentity l kind count words (m .svids) (m .identity)))
-    go true e = rw e
-    go false e = rw e
+        publishing kind (withOpening m (hearIdentity l kind count words (m .svids) (m .identity)))
+    go t true e b = rw b
+    go true false e b = rw (e, b)
+    go false false e b = rw (e, b)
 
--- the answer, settled
+-- the answer, and what it publishes
 module _ (l : Laptop) (m : Memory) (h : Head) (count : ℕ) (words : List ℕ) (few : count ≤ 6) (pads : padded (take count words) ≡ words) where
   size : length (take count words) ≡ count
   size =
@@ -115,12 +120,12 @@ module _ (l : Laptop) (m : Memory) (h : Head) (count : ℕ) (words : List ℕ) (
       let other = part-other (h .command) e in
       rw (es, ee, heard, asked, ne-eqb _ _ (other 1 refl), ne-eqb _ _ (other 2 refl), ne-eqb _ _ (other 3 refl))
 
-  settled-part : bringsPart (h .command) ≡ true → settled (hearPart l m (h .command) (h .kind) count words) ≡ hearAnswer l m (messageOf h count words)
+  published-part : bringsPart (h .command) ≡ true → publishing (h .kind) (hearPart l m (h .command) (h .kind) count words) ≡ hearAnswer l m (messageOf h count words)
   unfolding hearAnswer
-  settled-part e = go (eqb (h .command) 1) (eqb (h .command) 2) refl refl
+  published-part e = go (eqb (h .command) 1) (eqb (h .command) 2) refl refl
     where
       go : (a b : Bool) → eqb (h .command) 1 ≡ a → eqb (h .command) 2 ≡ b →
-          settled (hearPart l m (h .command) (h .kind) count words) ≡ hearAnswer l m (messageOf h count words)
+          publishing (h .kind) (hearPart l m (h .command) (h .kind) count words) ≡ hearAnswer l m (messageOf h count words)
       go true b ea eb =
           rw (ea, size, pads) (sym (identity-kept l m (h .kind) count words))
       go false true ea eb =
@@ -135,17 +140,19 @@ module _ (l : Laptop) (m : Memory) (h : Head) (count : ℕ) (words : List ℕ) (
 
   -- what is gathered, where it completes nothing and where it is published
   module _ (part : bringsPart (h .command) ≡ true) (step : Step) (after : Memory) (gathered : only after step ≡ hearPart l m (h .command) (h .kind) count words) where
-    pub answer-kept : isWhole (step .laptop) ≡ false → only after step ≡ hearAnswer l m (messageOf h count words)
-    answer-kept e = kept step after e ∙ ap settled gathered ∙ settled-part part
+    pub answer-kept : completes (h .kind) (step .laptop) ≡ false → only after step ≡ hearAnswer l m (messageOf h count words)
+    answer-kept e = kept (h .kind) step after e ∙ ap (publishing (h .kind)) gathered ∙ published-part part
 
-    pub answer-published : isWhole (step .laptop) ≡ true → (last : Step) (heldSvids heldModes heldIdentity heldRun : List ℕ) →
+    pub answer-published : completes (h .kind) (step .laptop) ≡ true → (last : Step) (heldSvids heldModes heldIdentity heldRun : List ℕ) →
         (last ≡ withLaptop (published (step .laptop)) step) × (heldSvids ≡ after .svids) × (heldModes ≡ after .modes) × (heldIdentity ≡ after .identity) ×
         (heldRun ≡ copied (take (step .laptop .gathered .count) (after .modes)) (after .run) 0 (after .heldRun)) →
         only (memory (after .svids) (after .modes) (after .identity) (after .run) heldSvids heldModes heldIdentity heldRun (after .entered)) last ≡
         hearAnswer l m (messageOf h count words)
-    unfolding settledStep settledList settledRun
-    answer-published e last heldSvids heldModes heldIdentity heldRun done = replaced ∙ ap settled gathered ∙ settled-part part
+    unfolding publishing stepIfWhole listIfWhole runIfWhole
+    answer-published e last heldSvids heldModes heldIdentity heldRun done = replaced (eqb (h .kind) 3) refl e ∙ ap (publishing (h .kind)) gathered ∙ published-part part
       where
-        replaced : only (memory (after .svids) (after .modes) (after .identity) (after .run) heldSvids heldModes heldIdentity heldRun (after .entered)) last ≡
-            settled (only after step)
-        replaced = rw (done .0, done .1, done .2, done .3, done .4, e)
+        replaced : (t : Bool) → eqb (h .kind) 3 ≡ t → cond t false (isWhole (step .laptop)) ≡ true →
+            only (memory (after .svids) (after .modes) (after .identity) (after .run) heldSvids heldModes heldIdentity heldRun (after .entered)) last ≡
+            publishing (h .kind) (only after step)
+        replaced true ek n = absurd (false≢true n)
+        replaced false ek n = rw (done .0, done .1, done .2, done .3, done .4, ek, n)

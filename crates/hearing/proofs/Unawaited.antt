@@ -10,9 +10,9 @@ use borrow.Author.Tests.{ne-eqb}
 use Rattle.messages.specs.Requests.{requestOf, sameRequest}
 use Rattle.messages.specs.declared.Head.{Head}
 use Rattle.messages.specs.declared.request.Request.{Request}
-use Rattle.laptop.specs.Calls.{refusedBy, turnedTo}
-use Rattle.hearing.specs.Hearing.{noticeOf, hearRequest, fits, isOpen, isLatePage, hearUnawaited}
-use Rattle.laptop.specs.State.{dropped}
+use Rattle.laptop.specs.Calls.{refusedBy, acceptedWith}
+use Rattle.hearing.specs.Hearing.{noticeOf, hearRequest, fits, isLatePage, hearUnawaited}
+use Rattle.laptop.specs.State.{isOpen, dropped}
 use Rattle.laptop.specs.declared.Candidate.{Candidate}
 use Rattle.laptop.specs.declared.Candidate.the-variants.{Absent, Open, Done}
 use Rattle.laptop.specs.declared.Laptop.{Laptop}
@@ -22,7 +22,7 @@ use Rattle.laptop.specs.declared.Wait.the-variants.{Nothing, Answer}
 use Rattle.laptop.proofs.Candidate.{the-type}
 
 module _ (l : Laptop) (h : Head) (count object : ℕ) where
-  pub request-attention : h .command ≡ 6 → turnedTo (Attention (noticeOf h count object)) l ≡ hearRequest l h count object
+  pub request-attention : h .command ≡ 6 → acceptedWith (Attention (noticeOf h count object)) l ≡ hearRequest l h count object
   unfolding hearRequest
   request-attention e = rw e
 

@@ -1,22 +1,21 @@
 -- A message that arrives at the laptop (01, "Refusal numbers" and "The laptop end").
+use mathlib.Core.Path.{_≡_}
 use Prim.Native.Nat.{ℕ}
 use mathlib.Core.Bool.{Bool, true, false, cond, _&&_}
 use mathlib.Core.List.{List}
 use lib.Dec.{eqb}
 use lib.ListN.{length, getD, take}
 use Rattle.laws.specs.Padded.{padded}
-use Rattle.messages.specs.Layout.{req, ack, Message}
-use Rattle.messages.specs.Reading.{Outcome, accepted, refused}
+use Rattle.messages.specs.Layout.{req, ack, busy, Message}
+use Rattle.messages.specs.Reading.{Outcome, accepted, refused, readOutcome}
 use Rattle.messages.specs.Requests.{identityCommand, svidsCommand, modesCommand, attentionCommand, requestOf, sameRequest}
 use Rattle.messages.specs.declared.Head.{Head}
 use Rattle.pages.specs.Pages.{halves}
 use Rattle.gathering.specs.Gathering.{hearIdentity, hearSvids, Opening, Gathering}
-use Rattle.hearing.specs.Answers.{hearModes, hearMode, Filling, Marking}
+use Rattle.hearing.specs.Answers.{hearModes, hearMode, Storing, Marking}
 use Rattle.publishing.specs.Publishing.{isWhole, copied, withLaptop}
-use Rattle.laptop.specs.Calls.{refusedBy, turnedTo, shortRuns}
-use Rattle.laptop.specs.State.{Memory, memory, dropped, published}
-use Rattle.laptop.specs.declared.Candidate.{Candidate}
-use Rattle.laptop.specs.declared.Candidate.the-variants.{Absent, Open, Done}
+use Rattle.laptop.specs.Calls.{refusedBy, acceptedWith, shortRuns}
+use Rattle.laptop.specs.State.{Memory, memory, LentMemory, isOpen, dropped, published}
 use Rattle.laptop.specs.declared.Laptop.{Laptop}
 use Rattle.laptop.specs.declared.Notice.{Notice}
 use Rattle.laptop.specs.declared.Step.{Step}
@@ -38,7 +37,7 @@ noticeOf h count object = record { svid = h .svid; position = h .position; count
 
 unfoldable pub hearRequest : Laptop → Head → ℕ → ℕ → Step
 hearRequest l h count object =
-    cond (eqb (h .command) attentionCommand) (turnedTo (Attention (noticeOf h count object)) l) (refusedBy 6 l)
+    cond (eqb (h .command) attentionCommand) (acceptedWith (Attention (noticeOf h count object)) l) (refusedBy 6 l)
 
 -- answers must fit the awaited SVID, command and position
 abbrev pub fits : Wait → Head → Bool
@@ -49,11 +48,6 @@ fits (Answer r) h = sameRequest r (requestOf h)
 abbrev pub isIdle : Wait → Bool
 isIdle Nothing = true
 isIdle (Answer r) = false
-
-abbrev pub isOpen : Candidate → Bool
-isOpen Absent = false
-isOpen Open = true
-isOpen Done = false
 
 unfoldable pub isLatePage : Laptop → Head → Bool
 isLatePage l h = isIdle (l .wait) && (isOpen (l .candidate) && (eqb (h .command) svidsCommand && eqb (h .kind) ack))
@@ -76,8 +70,8 @@ withGathering m g =
       after = memory (g .svids) (m .modes) (m .identity) (m .run) (m .heldSvids) (m .heldModes) (m .heldIdentity) (m .heldRun) (m .entered);
     }
 
-abbrev pub withFilling : Memory → Filling → Result
-withFilling m f =
+abbrev pub withStoring : Memory → Storing → Result
+withStoring m f =
     record {
       step = f .step;
       after = memory (m .svids) (f .modes) (m .identity) (f .run) (m .heldSvids) (m .heldModes) (m .heldIdentity) (m .heldRun) (m .entered);
@@ -90,27 +84,31 @@ withMarking m k =
       after = memory (m .svids) (m .modes) (m .identity) (m .run) (m .heldSvids) (m .heldModes) (m .heldIdentity) (m .heldRun) (k .entered);
     }
 
--- an answer that completes the candidate publishes it
-unfoldable pub settledStep : Step → Step
-settledStep s = cond (isWhole (s .laptop)) (withLaptop (published (s .laptop)) s) s
+-- a candidate that is whole is published
+unfoldable pub stepIfWhole : Step → Step
+stepIfWhole s = cond (isWhole (s .laptop)) (withLaptop (published (s .laptop)) s) s
 
-unfoldable pub settledList : Laptop → List ℕ → List ℕ → List ℕ
-settledList l candidate held = cond (isWhole l) candidate held
+unfoldable pub listIfWhole : Laptop → List ℕ → List ℕ → List ℕ
+listIfWhole l candidate held = cond (isWhole l) candidate held
 
-unfoldable pub settledRun : Laptop → List ℕ → List ℕ → List ℕ → List ℕ
-settledRun l modes run heldRun = cond (isWhole l) (copied (take (l .gathered .count) modes) run 0 heldRun) heldRun
+unfoldable pub runIfWhole : Laptop → List ℕ → List ℕ → List ℕ → List ℕ
+runIfWhole l modes run heldRun = cond (isWhole l) (copied (take (l .gathered .count) modes) run 0 heldRun) heldRun
 
-abbrev pub settled : Result → Result
-settled r =
+abbrev pub publishedIfWhole : Result → Result
+publishedIfWhole r =
     record {
-      step = settledStep (r .step);
+      step = stepIfWhole (r .step);
       after =
           memory (r .after .svids) (r .after .modes) (r .after .identity) (r .after .run)
-          (settledList (r .step .laptop) (r .after .svids) (r .after .heldSvids))
-          (settledList (r .step .laptop) (r .after .modes) (r .after .heldModes))
-          (settledList (r .step .laptop) (r .after .identity) (r .after .heldIdentity))
-          (settledRun (r .step .laptop) (r .after .modes) (r .after .run) (r .after .heldRun)) (r .after .entered);
+          (listIfWhole (r .step .laptop) (r .after .svids) (r .after .heldSvids))
+          (listIfWhole (r .step .laptop) (r .after .modes) (r .after .heldModes))
+          (listIfWhole (r .step .laptop) (r .after .identity) (r .after .heldIdentity))
+          (runIfWhole (r .step .laptop) (r .after .modes) (r .after .run) (r .after .heldRun)) (r .after .entered);
     }
+
+-- BUSY changes nothing more; another answer publishes the candidate that it makes whole
+unfoldable pub publishing : ℕ → Result → Result
+publishing kind r = cond (eqb kind busy) r (publishedIfWhole r)
 
 -- an answer that fits what is awaited
 unfoldable pub hearAnswer : Laptop → Memory → Message → Result
@@ -118,9 +116,9 @@ hearAnswer l m message =
     cond (eqb (message .head .command) identityCommand)
     (withOpening m (hearIdentity l (message .head .kind) (length (message .objects)) (padded (message .objects)) (m .svids) (m .identity)))
     (cond (eqb (message .head .command) svidsCommand)
-    (settled (withGathering m (hearSvids l (message .head .kind) (halves (message .objects)) (m .svids))))
+    (publishing (message .head .kind) (withGathering m (hearSvids l (message .head .kind) (halves (message .objects)) (m .svids))))
     (cond (eqb (message .head .command) modesCommand)
-    (settled (withFilling m (hearModes l (message .head .kind) (message .objects) (m .modes) (m .run))))
+    (publishing (message .head .kind) (withStoring m (hearModes l (message .head .kind) (message .objects) (m .modes) (m .run))))
     (withMarking m (hearMode l (message .head .kind) (requestOf (message .head)) (m .heldSvids) (m .entered)))))
 
 unfoldable pub hear : Laptop → Memory → Outcome → Result
@@ -134,3 +132,7 @@ hear l m (accepted message) =
 unfoldable pub heard : Laptop → Memory → Outcome → Result
 heard l m outcome =
     cond (shortRuns (length (m .run)) (length (m .heldRun))) (only m (refusedBy 11 l)) (hear l m outcome)
+
+-- what hearing a message promises: the step, and all that is lent
+abbrev pub Hears : Laptop → List ℕ → LentMemory → Step → Type 0
+Hears l bytes m step = (step ≡ heard l (m .entry) (readOutcome bytes) .step) × (m .exit ≡ heard l (m .entry) (readOutcome bytes) .after)

@@ -1,18 +1,18 @@
 // An answer that is awaited.
 ghost use mathlib.Core.Path.{_≡_};
-ghost use mathlib.Core.List.{List};
-ghost use Prim.Native.Nat.{ℕ, _≤_};
+ghost use Prim.Native.Nat.{_≤_};
 ghost use lib.ListN.{take};
 ghost use Rattle.laws.specs.Padded.{padded};
-ghost use Rattle.hearing.specs.Hearing.{only, hearAnswer};
-ghost use Rattle.hearing.specs.Parts.{bringsPart, hearPart};
-ghost use Rattle.laptop.specs.State.{memory};
+ghost use Rattle.hearing.specs.Parts.{bringsPart, GathersPart, HearsAnswer};
+ghost use Rattle.hearing.specs.Parts.{completes as Parts·completes};
+ghost use Rattle.laptop.specs.State.{memoryLent};
 use answers::hear_mode;
 use answers::hear_modes;
 use gathering::hear_identity;
 use gathering::hear_svids;
 use laptop::Laptop;
 use laptop::Step;
+use messages::BUSY;
 use messages::Head;
 use messages::IDENTITY;
 use messages::MODES;
@@ -43,7 +43,7 @@ fn gather(
     identity: &mut [u32; 6],
     run: &mut [u32],
 ) -> Step
-    ensures { λ r. ⌜ ((heldSvids heldModes heldIdentity heldRun entered : List ℕ) → only (memory (now (svids .exit)) (now (modes .exit)) (now (identity .exit)) (now (run .exit)) heldSvids heldModes heldIdentity heldRun entered) r ≡ hearPart laptop (memory (now (svids .entry)) (now (modes .entry)) (now (identity .entry)) (now (run .entry)) heldSvids heldModes heldIdentity heldRun entered) command kind count (now (objects .entry))) ⌝ }
+    ensures { λ r. ⌜ GathersPart laptop command kind count (now (objects .entry)) svids modes identity run r ⌝ }
 {
     if command == IDENTITY {
         return hear_identity(laptop, kind, count, objects, svids, identity);
@@ -52,6 +52,16 @@ fn gather(
         return hear_svids(laptop, kind, count, objects, svids);
     }
     hear_modes(laptop, kind, count, objects, modes, run)
+}
+
+// Does the answer make the candidate whole? BUSY never does.
+fn completes(kind: u8, laptop: Laptop) -> bool
+    ensures { λ r. ⌜ r ≡ Parts·completes kind laptop ⌝ }
+{
+    if kind == BUSY {
+        return false;
+    }
+    is_whole(laptop)
 }
 
 // A candidate that its last part makes whole is published.
@@ -71,7 +81,7 @@ pub(crate) fn hear_answer(
     entered: &mut [u8; 72],
 ) -> Step
     requires { ⌜ (count ≤ 6) × (padded (take count (now objects)) ≡ now objects) ⌝ }
-    ensures { λ r. ⌜ only (memory (now (svids .exit)) (now (modes .exit)) (now (identity .exit)) (now (run .exit)) (now («held_svids» .exit)) (now («held_modes» .exit)) (now («held_identity» .exit)) (now («held_run» .exit)) (now (entered .exit))) r ≡ hearAnswer laptop (memory (now (svids .entry)) (now (modes .entry)) (now (identity .entry)) (now (run .entry)) (now («held_svids» .entry)) (now («held_modes» .entry)) (now («held_identity» .entry)) (now («held_run» .entry)) (now (entered .entry))) (record { head = head; objects = take count (now (objects .entry)) }) ⌝ }
+    ensures { λ r. ⌜ HearsAnswer laptop head (take count (now (objects .entry))) (memoryLent svids modes identity run «held_svids» «held_modes» «held_identity» «held_run» entered) r ⌝ }
 {
     if !brings_part(head.command) {
         return hear_mode(laptop, head.kind, request_of(head), held_svids, entered);
@@ -88,7 +98,7 @@ pub(crate) fn hear_answer(
         run,
     );
     let after = step.laptop;
-    if !is_whole(after) {
+    if !completes(head.kind, after) {
         return step;
     }
     publish(

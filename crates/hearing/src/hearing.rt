@@ -1,9 +1,8 @@
 // A message that arrives.
 ghost use mathlib.Core.Path.{_≡_};
-ghost use Rattle.messages.specs.Reading.{readOutcome};
-ghost use Rattle.hearing.specs.Hearing.{noticeOf, hearRequest, isLatePage, hearUnawaited, heard};
+ghost use Rattle.hearing.specs.Hearing.{noticeOf, hearRequest, isLatePage, hearUnawaited, Hears};
 ghost use Rattle.hearing.specs.Hearing.{fits as Hearing·fits};
-ghost use Rattle.laptop.specs.State.{memory};
+ghost use Rattle.laptop.specs.State.{memoryLent};
 use crate::awaited::hear_answer;
 use laptop::Candidate;
 use laptop::Laptop;
@@ -11,15 +10,15 @@ use laptop::Notice;
 use laptop::Step;
 use laptop::Told;
 use laptop::Wait;
+use laptop::accepted;
 use laptop::dropped;
 use laptop::refused;
 use laptop::short_runs;
-use laptop::turned;
 use messages::ACK;
 use messages::ATTENTION;
-use messages::Answer;
 use messages::Head;
 use messages::REQ;
+use messages::ReadAs;
 use messages::SVIDS;
 use messages::request_of;
 use messages::same_request;
@@ -40,7 +39,7 @@ fn hear_request(laptop: Laptop, head: Head, count: u8, object: u32) -> Step
     ensures { λ r. ⌜ r ≡ hearRequest laptop head count object ⌝ }
 {
     if head.command == ATTENTION {
-        return turned(Told::Attention(notice_of(head, count, object)), laptop);
+        return accepted(Told::Attention(notice_of(head, count, object)), laptop);
     }
     refused(6, laptop)
 }
@@ -96,15 +95,15 @@ pub fn message(
     held_run: &mut [u32],
     entered: &mut [u8; 72],
 ) -> Step
-    ensures { λ r. ⌜ (r ≡ (heard laptop (memory (now (svids .entry)) (now (modes .entry)) (now (identity .entry)) (now (run .entry)) (now («held_svids» .entry)) (now («held_modes» .entry)) (now («held_identity» .entry)) (now («held_run» .entry)) (now (entered .entry))) (readOutcome (now (bytes .entry)))) .step) × (memory (now (svids .exit)) (now (modes .exit)) (now (identity .exit)) (now (run .exit)) (now («held_svids» .exit)) (now («held_modes» .exit)) (now («held_identity» .exit)) (now («held_run» .exit)) (now (entered .exit)) ≡ (heard laptop (memory (now (svids .entry)) (now (modes .entry)) (now (identity .entry)) (now (run .entry)) (now («held_svids» .entry)) (now («held_modes» .entry)) (now («held_identity» .entry)) (now («held_run» .entry)) (now (entered .entry))) (readOutcome (now (bytes .entry)))) .after) ⌝ }
+    ensures { λ r. ⌜ Hears laptop (now (bytes .entry)) (memoryLent svids modes identity run «held_svids» «held_modes» «held_identity» «held_run» entered) r ⌝ }
 {
     if short_runs(run, held_run) {
         return refused(11, laptop);
     }
     let reading = reading::read(bytes);
-    let answer = reading.answer;
-    let Answer::Message(head, count) = answer else {
-        return refused(reading::number(answer), laptop);
+    let outcome = reading.outcome;
+    let ReadAs::Message(head, count) = outcome else {
+        return refused(reading::number(outcome), laptop);
     };
     if head.kind == REQ {
         return hear_request(laptop, head, count, reading.objects[0]);

@@ -1,4 +1,5 @@
 -- Laws on the laptop's definitions, a file for each topic.
 pub mod HeldList
 pub mod Marking
+pub mod Numbers
 pub mod Steps

@@ -13,7 +13,7 @@ use borrow.Author.Tests.{eq-eqb, ne-eqb, le-leb, lt-leb, lt-ltb, le-ltb, leb-tru
 use Rattle.laws.proofs.Lines.{and-right}
 use Rattle.pages.proofs.Scanning.{next}
 use Rattle.laptop.specs.Catalogue.{heldList}
-use Rattle.laptop.specs.Marks.{placeOf, named, reported}
+use Rattle.laptop.specs.Marks.{placeOf, named, sixBits, reported}
 use Rattle.laptop.specs.declared.Held.{Held}
 
 past : (k p : ℕ) → k ≤ p → (p ≡ k → ⊥) → k < p
@@ -67,12 +67,12 @@ module _ (svid : ℕ) (l : List ℕ) (i : ℕ) where
 
 -- the report
 module _ (held : Held) (heldSvids entered list : List ℕ) (svid place : ℕ) (e : list ≡ heldList held heldSvids) (is : place ≡ placeOf svid list) where
-  reported-in : reported held heldSvids entered svid ≡ cond (leb (suc place) (length list)) (ones (getD entered place 0)) 0
+  reported-in : reported held heldSvids entered svid ≡ cond (leb (suc place) (length list)) (ones (sixBits (getD entered place 0))) 0
   unfolding reported
   reported-in = rw (← e, ← is)
 
   pub report-none : length list ≤ place → 0 ≡ reported held heldSvids entered svid
   report-none h = sym (reported-in ∙ rw (le-ltb _ _ h))
 
-  pub report-ones : (n : ℕ) → place < length list → n ≡ getD entered place 0 → ones n ≡ reported held heldSvids entered svid
+  pub report-ones : (n : ℕ) → place < length list → n ≡ sixBits (getD entered place 0) → ones n ≡ reported held heldSvids entered svid
   report-ones n h en = ap ones en ∙ sym (reported-in ∙ rw (lt-ltb _ _ h))

@@ -10,7 +10,7 @@ use Rattle.messages.specs.Layout.{Message}
 use Rattle.messages.specs.Writing.{writeRefusal, Written}
 use Rattle.messages.specs.declared.Head.{Head}
 use Rattle.messages.proofs.Stores.{length-message}
-use Rattle.laptop.specs.Calls.{Decision, refuses, turns, sends, refusedBy, turnedTo, sentBy, stepOf, bufferOf, Stepped, unless, shortRuns}
+use Rattle.laptop.specs.Calls.{Decision, refuses, accepts, sends, refusedBy, acceptedWith, sentBy, stepOf, bufferOf, Stepped, unless, shortRuns}
 use Rattle.laptop.specs.declared.Laptop.{Laptop}
 use Rattle.laptop.specs.declared.Step.{Step}
 use Rattle.laptop.specs.declared.Told.{Told}
@@ -24,10 +24,10 @@ refuse l next decision number out s e is =
       buffer-is = sym (ap (λ (x : Decision). bufferOf x out) e);
     }
 
-pub turn : (l next : Laptop) (told : Told) (decision : Decision) (out : List ℕ) (s : Step) → decision ≡ turns told next →
-    s ≡ turnedTo told next → Stepped l decision out s out
+pub accept : (l next : Laptop) (told : Told) (decision : Decision) (out : List ℕ) (s : Step) → decision ≡ accepts told next →
+    s ≡ acceptedWith told next → Stepped l decision out s out
 unfolding stepOf bufferOf
-turn l next told decision out s e is =
+accept l next told decision out s e is =
     record {
       step-is = is ∙ sym (ap (λ (x : Decision). stepOf l x (length out)) e);
       buffer-is = sym (ap (λ (x : Decision). bufferOf x out) e);

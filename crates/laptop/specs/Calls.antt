@@ -20,14 +20,14 @@ use Rattle.laptop.specs.declared.Wait.the-variants.{Answer}
 -- state once it is sent
 pub data Decision : Type 0 where
   refuses : ℕ → Laptop → Decision
-  turns : Told → Laptop → Decision
+  accepts : Told → Laptop → Decision
   sends : Message → Laptop → Decision
 
 abbrev pub refusedBy : ℕ → Laptop → Step
 refusedBy number l = record { refusal = number; length = 0; told = Nothing; laptop = l }
 
-abbrev pub turnedTo : Told → Laptop → Step
-turnedTo told l = record { refusal = 0; length = 0; told = told; laptop = l }
+abbrev pub acceptedWith : Told → Laptop → Step
+acceptedWith told l = record { refusal = 0; length = 0; told = told; laptop = l }
 
 abbrev pub sentBy : ℕ → Laptop → Step
 sentBy bytes l = record { refusal = 0; length = bytes; told = Nothing; laptop = l }
@@ -35,13 +35,13 @@ sentBy bytes l = record { refusal = 0; length = bytes; told = Nothing; laptop = 
 -- a short output buffer is refused last, and the laptop is as it was
 unfoldable pub stepOf : Laptop → Decision → ℕ → Step
 stepOf l (refuses number next) room = refusedBy number next
-stepOf l (turns told next) room = turnedTo told next
+stepOf l (accepts told next) room = acceptedWith told next
 stepOf l (sends m next) room =
     cond (eqb (writeRefusal m room) 0) (sentBy (length (messageBytes m)) next) (refusedBy (writeRefusal m room) l)
 
 unfoldable pub bufferOf : Decision → List ℕ → List ℕ
 bufferOf (refuses number next) out = out
-bufferOf (turns told next) out = out
+bufferOf (accepts told next) out = out
 bufferOf (sends m next) out = written m out
 
 -- what a call promises: the refusal, the bytes to send, what policy is told and the state in one, and the whole buffer

@@ -40,7 +40,7 @@ entriesFrom i (s ∷ svids) modes run = record { svid = s; modes = modesAt modes
 -- the catalogue in lent arrays: identity objects, SVIDs, the number of modes of each, and a run of mode words
 abbrev pub catalogueIn : Size → List ℕ → List ℕ → List ℕ → List ℕ → Catalogue
 catalogueIn size identity svids modes run =
-    record { identity = take (size .objects) identity; entries = entriesFrom 0 (take (size .count) svids) modes run }
+    record { identity = take (size .extent) identity; entries = entriesFrom 0 (take (size .count) svids) modes run }
 
 -- the SVIDs of the held catalogue, none where nothing is held
 abbrev pub heldList : Held → List ℕ → List ℕ

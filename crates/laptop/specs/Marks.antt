@@ -1,5 +1,5 @@
 -- Entered modes: a set bit per position (01, "The laptop end").
-use Prim.Native.Nat.{ℕ, suc, _-_, _^_}
+use Prim.Native.Nat.{ℕ, suc, _-_, _%_, _^_}
 use mathlib.Core.Bool.{Bool, cond, not, _&&_}
 use mathlib.Core.List.{List, [], _∷_}
 use lib.Bits.{bitAnd, bitOr}
@@ -22,6 +22,10 @@ allPositions = 63
 unfoldable pub named : ℕ → ℕ
 named position = cond (leb 1 position && leb position 6) (2 ^ (position - 1)) (cond (eqb position 7) allPositions 0)
 
+-- of a set the low six bits count
+abbrev pub sixBits : ℕ → ℕ
+sixBits sets = sets % 64
+
 unfoldable pub isEntered : List ℕ → ℕ → ℕ → Bool
 isEntered entered place position = not (eqb (bitAnd (getD entered place 0) (named position)) 0)
 
@@ -39,4 +43,4 @@ marksAfter list entered svid command position =
 unfoldable pub reported : Held → List ℕ → List ℕ → ℕ → ℕ
 reported held heldSvids entered svid =
     cond (ltb (placeOf svid (heldList held heldSvids)) (length (heldList held heldSvids)))
-    (ones (getD entered (placeOf svid (heldList held heldSvids)) 0)) 0
+    (ones (sixBits (getD entered (placeOf svid (heldList held heldSvids)) 0))) 0

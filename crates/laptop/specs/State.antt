@@ -1,14 +1,16 @@
 -- The laptop's state, and how the parts of a rule change it (01, "The laptop end").
 use Prim.Native.Nat.{ℕ, _+_}
-use mathlib.Core.Bool.{cond}
+use mathlib.Core.Bool.{Bool, true, false, cond}
 use mathlib.Core.List.{List}
 use lib.Dec.{ltb}
 use lib.ListN.{take}
+use denote.Triple.Both.{Both}
+use Rattle.laws.specs.Lent.{Lent, lent, left}
 use Rattle.messages.specs.Table.{pdSid}
 use Rattle.messages.specs.Requests.{identityCommand}
 use Rattle.messages.specs.declared.request.Request.{Request}
 use Rattle.laptop.specs.declared.Candidate.{Candidate}
-use Rattle.laptop.specs.declared.Candidate.the-variants.{Absent, Open}
+use Rattle.laptop.specs.declared.Candidate.the-variants.{Absent, Open, Done}
 use Rattle.laptop.specs.declared.Held.the-variants.{Catalogue as Held·Catalogue}
 use Rattle.laptop.specs.declared.Held.the-variants.{Nothing as Held·Nothing}
 use Rattle.laptop.specs.declared.Laptop.{Laptop}
@@ -41,17 +43,35 @@ memory svids modes identity run heldSvids heldModes heldIdentity heldRun entered
       entered = entered;
     }
 
+-- all of it as it was lent and as it is left
+abbrev pub LentMemory : Type 0
+LentMemory = Both Memory Memory
+
+abbrev pub memoryLent : Lent (List ℕ) → Lent (List ℕ) → Lent (List ℕ) → Lent (List ℕ) → Lent (List ℕ) → Lent (List ℕ) → Lent (List ℕ) →
+    Lent (List ℕ) → Lent (List ℕ) → LentMemory
+memoryLent svids modes identity run heldSvids heldModes heldIdentity heldRun entered =
+    record {
+      entry = memory (lent svids) (lent modes) (lent identity) (lent run) (lent heldSvids) (lent heldModes) (lent heldIdentity) (lent heldRun) (lent entered);
+      exit = memory (left svids) (left modes) (left identity) (left run) (left heldSvids) (left heldModes) (left heldIdentity) (left heldRun) (left entered);
+    }
+
 -- nothing is awaited, gathered or held
 abbrev pub freshLaptop : Laptop
 freshLaptop =
     record {
       wait = Nothing;
       candidate = Absent;
-      gathered = record { objects = 0; count = 0 };
-      filled = 0;
+      gathered = record { extent = 0; count = 0 };
+      stored = 0;
       pages = 0;
       held = Held·Nothing;
     }
+
+-- the candidate's list is open
+abbrev pub isOpen : Candidate → Bool
+isOpen Absent = false
+isOpen Open = true
+isOpen Done = false
 
 -- the list gathered so far
 abbrev pub gatheredList : Laptop → List ℕ → List ℕ
@@ -64,7 +84,7 @@ ended l =
       wait = Nothing;
       candidate = l .candidate;
       gathered = l .gathered;
-      filled = l .filled;
+      stored = l .stored;
       pages = l .pages;
       held = l .held;
     }
@@ -76,7 +96,7 @@ dropped l =
       wait = Nothing;
       candidate = Absent;
       gathered = l .gathered;
-      filled = l .filled;
+      stored = l .stored;
       pages = l .pages;
       held = l .held;
     }
@@ -87,7 +107,7 @@ awaiting r l =
       wait = Answer r;
       candidate = l .candidate;
       gathered = l .gathered;
-      filled = l .filled;
+      stored = l .stored;
       pages = l .pages;
       held = l .held;
     }
@@ -102,7 +122,7 @@ identityAsked l =
       wait = Answer identityRequest;
       candidate = Absent;
       gathered = l .gathered;
-      filled = l .filled;
+      stored = l .stored;
       pages = 0;
       held = l .held;
     }
@@ -113,8 +133,8 @@ opened n l =
     record {
       wait = Nothing;
       candidate = Open;
-      gathered = record { objects = n; count = 0 };
-      filled = 0;
+      gathered = record { extent = n; count = 0 };
+      stored = 0;
       pages = l .pages;
       held = l .held;
     }
@@ -126,7 +146,7 @@ withPages p l =
       wait = l .wait;
       candidate = l .candidate;
       gathered = l .gathered;
-      filled = l .filled;
+      stored = l .stored;
       pages = p;
       held = l .held;
     }
@@ -140,20 +160,20 @@ gatheredTo candidate n l =
     record {
       wait = Nothing;
       candidate = candidate;
-      gathered = record { objects = l .gathered .objects; count = n };
-      filled = l .filled;
+      gathered = record { extent = l .gathered .extent; count = n };
+      stored = l .stored;
       pages = l .pages;
       held = l .held;
     }
 
 -- the first n SVIDs have their modes
-abbrev pub filledTo : ℕ → Laptop → Laptop
-filledTo n l =
+abbrev pub storedTo : ℕ → Laptop → Laptop
+storedTo n l =
     record {
       wait = Nothing;
       candidate = l .candidate;
       gathered = l .gathered;
-      filled = n;
+      stored = n;
       pages = l .pages;
       held = l .held;
     }
@@ -165,7 +185,7 @@ published l =
       wait = Nothing;
       candidate = Absent;
       gathered = l .gathered;
-      filled = l .filled;
+      stored = l .stored;
       pages = l .pages;
       held = Held·Catalogue (l .gathered);
     }

@@ -4,24 +4,26 @@
 // What is small goes by value in a `Laptop`. Lent beside it, in arrays that every call leaves as its promise says: the candidate's SVIDs, the
 // number of modes of each and its identity objects; the same of the held catalogue; the entered modes of each held SVID, a bit for each
 // position; and the two runs of mode words.
+mod calls;
 mod marks;
 mod places;
-mod settling;
 
+pub use calls::accepted;
+pub use calls::dropped;
+pub use calls::ended;
+pub use calls::fresh;
+pub use calls::refused;
+pub use calls::short_runs;
 pub use marks::marked;
 pub use marks::named;
 pub use marks::report;
-pub use marks::set_at;
+pub use marks::six_bits;
 pub use marks::unmarked;
 use messages::Request;
 pub use places::held_list;
+pub use places::modes_number;
+pub use places::number_at;
 pub use places::place_of;
-pub use settling::dropped;
-pub use settling::ended;
-pub use settling::fresh;
-pub use settling::refused;
-pub use settling::short_runs;
-pub use settling::turned;
 
 // Nothing is awaited, or the answer to a request.
 pub enum Wait {
@@ -38,7 +40,7 @@ pub enum Candidate {
 
 // How many identity objects and SVIDs a catalogue has.
 pub struct Size {
-    pub objects: u8,
+    pub extent: u8,
     pub count: u8,
 }
 
@@ -53,7 +55,7 @@ pub struct Laptop {
     pub wait: Wait,
     pub candidate: Candidate,
     pub gathered: Size,
-    pub filled: u8,
+    pub stored: u8,
     pub pages: u8,
     pub held: Held,
 }

@@ -2,11 +2,11 @@
 ghost use mathlib.Core.Path.{_≡_};
 ghost use lib.Bits.{bitAnd, bitOr};
 ghost use Prim.Native.Nat.{_-_};
-ghost use lib.ListN.{getD};
-ghost use Rattle.laptop.specs.Marks.{reported};
+ghost use Rattle.laptop.specs.Marks.{sixBits, reported};
 ghost use Rattle.laptop.specs.Marks.{named as Marks·named};
 use crate::Laptop;
 use crate::places::held_list;
+use crate::places::number_at;
 use crate::places::place_of;
 
 // The set of what a position names: its own bit, or all six for 7.
@@ -25,15 +25,11 @@ pub fn named(position: u8) -> u8
     }
 }
 
-// The set of a place, or none past the end.
-pub fn set_at(entered: &[u8], place: usize) -> u8
-    ensures { λ r. ⌜ r ≡ getD (now (entered .entry)) place 0 ⌝ }
+// Of a set the low six bits count.
+pub fn six_bits(set: u8) -> u8
+    ensures { λ r. ⌜ r ≡ sixBits set ⌝ }
 {
-    if place < entered.len() {
-        entered[place]
-    } else {
-        0
-    }
+    set % 64
 }
 
 pub fn marked(set: u8, position: u8) -> u8
@@ -58,5 +54,5 @@ pub fn report(laptop: Laptop, svid: u16, held_svids: &[u16; 72], entered: &[u8; 
     if list.len() <= place {
         return 0;
     }
-    u8::count_ones(set_at(entered, place))
+    u8::count_ones(six_bits(number_at(entered, place)))
 }

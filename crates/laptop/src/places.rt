@@ -1,7 +1,8 @@
-// The held catalogue's list, and an SVID's place in it.
+// The held catalogue's list, an SVID's place in it, and what stands at a place.
 ghost use Rattle.laptop.specs.Marks.{placeOf};
 ghost use mathlib.Core.Path.{_≡_};
-ghost use Rattle.laptop.specs.Catalogue.{heldList};
+ghost use lib.ListN.{getD};
+ghost use Rattle.laptop.specs.Catalogue.{modesNumber, heldList};
 use crate::Held;
 use pages::first_svids;
 
@@ -27,4 +28,26 @@ pub fn place_of(svid: u16, list: &[u16]) -> usize
         i += 1;
     }
     i
+}
+
+// The number at a place, or 0 past the end.
+pub fn number_at(numbers: &[u8], place: usize) -> u8
+    ensures { λ r. ⌜ r ≡ getD (now (numbers .entry)) place 0 ⌝ }
+{
+    if place < numbers.len() {
+        numbers[place]
+    } else {
+        0
+    }
+}
+
+// How many modes the SVID at a place has: more than six count as six.
+pub fn modes_number(modes: &[u8], place: usize) -> u8
+    ensures { λ r. ⌜ r ≡ modesNumber (now (modes .entry)) place ⌝ }
+{
+    let number = number_at(modes, place);
+    if number <= 6 {
+        return number;
+    }
+    6
 }

@@ -3,6 +3,7 @@ ghost use Prim.Native.Nat.{_≤_};
 use driving::calls::take_call;
 use driving::owning::RUN;
 use events::Call;
+use streams::finish::Turn;
 use streams::input::Byte;
 use streams::input::fill;
 use streams::input::half_of;
@@ -45,13 +46,10 @@ pub enum Event {
     Lengths(Lengths),
 }
 
-// The event that stood next, or why there is none.
+// The event that stood next, or the turn without one.
 pub enum Taken {
     Whole(Event),
-    NewStream,
-    Unknown,
-    Cut,
-    Nothing,
+    Without(Turn),
 }
 
 pub fn at_most(number: usize, most: usize) -> usize
@@ -62,11 +60,11 @@ pub fn at_most(number: usize, most: usize) -> usize
 
 fn take_message(message: &mut [u8]) -> Taken {
     let Byte::Read(length) = read_byte() else {
-        return Taken::Cut;
+        return Taken::Without(Turn::Cut);
     };
     let count = at_most(length_of(length), message.len());
     if !fill(&mut message[0..count]) {
-        return Taken::Cut;
+        return Taken::Without(Turn::Cut);
     }
     Taken::Whole(Event::Message(count))
 }
@@ -74,7 +72,7 @@ fn take_message(message: &mut [u8]) -> Taken {
 fn take_report() -> Taken {
     let mut svid = [0u8; 2];
     if !fill(&mut svid) {
-        return Taken::Cut;
+        return Taken::Without(Turn::Cut);
     }
     Taken::Whole(Event::Report(half_of(svid[0], svid[1])))
 }
@@ -86,7 +84,7 @@ fn length_in(low: u8, high: u8, most: usize) -> usize {
 fn take_catalogue() -> Taken {
     let mut room = [0u8; 2];
     if !fill(&mut room) {
-        return Taken::Cut;
+        return Taken::Without(Turn::Cut);
     }
     Taken::Whole(Event::Catalogue(length_in(room[0], room[1], CATALOGUE_ROOM)))
 }
@@ -94,7 +92,7 @@ fn take_catalogue() -> Taken {
 fn take_lengths() -> Taken {
     let mut bytes = [0u8; 5];
     if !fill(&mut bytes) {
-        return Taken::Cut;
+        return Taken::Without(Turn::Cut);
     }
     let lengths = Lengths {
         output: bytes[0],
@@ -107,15 +105,14 @@ fn take_lengths() -> Taken {
 fn take_watcher_call(kind: u8) -> Taken {
     match take_call(kind) {
         driving::calls::Taken::Whole(call) => Taken::Whole(Event::Call(call)),
-        driving::calls::Taken::Unknown => Taken::Unknown,
-        driving::calls::Taken::Cut => Taken::Cut,
+        driving::calls::Taken::Without(turn) => Taken::Without(turn),
     }
 }
 
 // The bytes of a message are put first into the array.
 pub fn take_event(message: &mut [u8; LONGEST_MESSAGE]) -> Taken {
     let Byte::Read(kind) = read_byte() else {
-        return Taken::Nothing;
+        return Taken::Without(Turn::Ended);
     };
     match kind {
         MESSAGE => take_message(message),
@@ -123,7 +120,7 @@ pub fn take_event(message: &mut [u8; LONGEST_MESSAGE]) -> Taken {
         REPORT => take_report(),
         CATALOGUE => take_catalogue(),
         LENGTHS => take_lengths(),
-        NEW_STREAM => Taken::NewStream,
-        _ => Taken::Unknown,
+        NEW_STREAM => Taken::Without(Turn::NewStream),
+        _ => Taken::Without(Turn::Unknown),
     }
 }

@@ -80,5 +80,5 @@ module _ (count : ℕ) (modes run held : List ℕ) (few : count ≤ 72) (whole :
 pub catalogue-copied : (size : Size) (identity svids modes run held : List ℕ) → size .count ≤ 72 → 432 ≤ length run → 432 ≤ length held →
     catalogueIn size identity svids modes (copied (take (size .count) modes) run 0 held) ≡ catalogueIn size identity svids modes run
 catalogue-copied size identity svids modes run held few whole room =
-    ap (λ (e : List Entry). record { identity = take (size .objects) identity; entries = e })
+    ap (λ (e : List Entry). record { identity = take (size .extent) identity; entries = e })
     (entries-copied (size .count) modes run held few whole room 0 (take (size .count) svids) (omega (arith, length-take (size .count) svids)))

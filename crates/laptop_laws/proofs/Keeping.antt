@@ -1,8 +1,8 @@
 -- A well-formed laptop stays so by the owner's calls and by timers.
 use mathlib.Core.Logic.{inl, inr}
-use mathlib.Core.Path.{_≡_, refl, sym, _∙_, subst}
+use mathlib.Core.Path.{_≡_, refl, ap, sym, _∙_}
 use mathlib.Core.Bool.{Bool, true, false, cond, not, _&&_, _||_, false≢true}
-use mathlib.Core.List.{List, [], _∷_}
+use mathlib.Core.List.{List}
 use Prim.Native.Nat.{ℕ, zero, suc, _≤_}
 use native.Mathlib.Omega.{arith}
 use lib.Dec.{leb, ltb, eqb}
@@ -11,13 +11,13 @@ use borrow.Author.Tests.{eqb-true, eqb-false}
 use Rattle.messages.specs.Layout.{messageBytes}
 use Rattle.messages.specs.Writing.{writeRefusal}
 use Rattle.messages.specs.declared.request.Request.{Request}
-use Rattle.laptop.specs.Calls.{Decision, refuses, turns, sends, refusedBy, sentBy, stepOf, unless}
+use Rattle.laptop.specs.Calls.{Decision, refuses, accepts, sends, refusedBy, sentBy, stepOf, unless}
 use Rattle.laptop.specs.Catalogue.{heldList}
-use Rattle.laptop.specs.Marks.{placeOf, isEntered}
-use Rattle.owner.specs.Owner.{ownerRefusal, anyEntered, askingRefusal, asksNext, decideNext, decideStartOver, decideDrop, hasMode, isAbsent, decideEnter, exitRefusal, decideExit}
+use Rattle.laptop.specs.Marks.{placeOf, sixBits}
+use Rattle.owner.specs.Owner.{ownerRefusal, anyEntered, askingRefusal, asksNext, decideNext, decideStartOver, decideDrop, isAbsent, decideEnter, decideExit}
 use Rattle.laptop.specs.State.{Memory, ended, dropped, awaiting, identityAsked, freshLaptop}
 use Rattle.timers.specs.Timers.{over, decideTimer, decideError}
-use Rattle.laptop_laws.specs.WellFormed.{Lent, WaitFits, awaitsIdentity, isAsking, WellFormed}
+use Rattle.laptop_laws.specs.WellFormed.{Lent, WaitFits, awaitsIdentity, isAsking, ModeFits, WellFormed}
 use Rattle.laptop.specs.declared.Candidate.{Candidate}
 use Rattle.laptop.specs.declared.Candidate.the-variants.{Absent, Open, Done}
 use Rattle.laptop.specs.declared.Laptop.{Laptop}
@@ -25,24 +25,14 @@ use Rattle.laptop.specs.declared.Told.{Told}
 use Rattle.laptop.specs.declared.Told.the-variants.{Timer, ProtocolError}
 use Rattle.laptop.specs.declared.Wait.{Wait}
 use Rattle.laptop.specs.declared.Wait.the-variants.{Nothing, Answer}
+use Rattle.laptop_laws.proofs.Bits.{none-set, none-entered}
+use Rattle.laptop_laws.proofs.Places.{AnyOf, enter-free, exit-free}
 
 -- a candidate is absent where it is said to be
 pub absent-is : (c : Candidate) → isAbsent c ≡ true → c ≡ Absent
 absent-is Absent e = refl
 absent-is Open e = absurd (false≢true e)
 absent-is Done e = absurd (false≢true e)
-
--- no mode is entered: each set is empty
-pub none-at : (entered : List ℕ) → anyEntered entered ≡ false → (i : ℕ) → getD entered i 0 ≡ 0
-unfolding anyEntered
-none-at [] e i = refl
-none-at (s ∷ sets) e i = go (eqb s 0) refl (none-at sets) e i
-  where
-    go : (t : Bool) → eqb s 0 ≡ t → (anyEntered sets ≡ false → (k : ℕ) → getD sets k 0 ≡ 0) → (not t || anyEntered sets) ≡ false →
-        (k : ℕ) → getD (s ∷ sets) k 0 ≡ 0
-    go true es rest n zero = eqb-true s 0 es
-    go true es rest n (suc k) = rest n k
-    go false es rest n k = absurd (false≢true (sym n))
 
 module _ (l : Laptop) (m : Memory) (w : WellFormed l m) where
   pub ended-formed : WellFormed (ended l) m
@@ -54,6 +44,8 @@ module _ (l : Laptop) (m : Memory) (w : WellFormed l m) where
         wait-fits = tt;
         none-entered = λ a. w .none-entered (still (not (isAbsent (l .candidate))) a);
         sets-fit = w .sets-fit;
+        entered-held = w .entered-held;
+        mode-fits = tt;
       }
     where
       still : (t : Bool) → (t || false) ≡ true → (t || awaitsIdentity (l .wait)) ≡ true
@@ -69,11 +61,13 @@ module _ (l : Laptop) (m : Memory) (w : WellFormed l m) where
         wait-fits = tt;
         none-entered = λ a. absurd (false≢true a);
         sets-fit = w .sets-fit;
+        entered-held = w .entered-held;
+        mode-fits = tt;
       }
 
-  awaiting-formed : (r : Request) → WaitFits (Answer r) (l .candidate) (l .pages) (l .filled) (m .svids) →
-      (isAsking (awaiting r l) ≡ true → anyEntered (m .entered) ≡ false) → WellFormed (awaiting r l) m
-  awaiting-formed r f n =
+  awaiting-formed : (r : Request) → WaitFits (Answer r) (l .candidate) (l .pages) (l .stored) (m .svids) →
+      (isAsking (awaiting r l) ≡ true → anyEntered (m .entered) ≡ false) → ModeFits (Answer r) l m → WellFormed (awaiting r l) m
+  awaiting-formed r f n k =
       record {
         lent = w .lent;
         held-fits = w .held-fits;
@@ -81,6 +75,8 @@ module _ (l : Laptop) (m : Memory) (w : WellFormed l m) where
         wait-fits = f;
         none-entered = n;
         sets-fit = w .sets-fit;
+        entered-held = w .entered-held;
+        mode-fits = k;
       }
 
   asked-formed : anyEntered (m .entered) ≡ false → WellFormed (identityAsked l) m
@@ -92,12 +88,14 @@ module _ (l : Laptop) (m : Memory) (w : WellFormed l m) where
         wait-fits = inl (refl, refl, refl);
         none-entered = λ a. n;
         sets-fit = w .sets-fit;
+        entered-held = w .entered-held;
+        mode-fits = λ h. absurd (omega arith);
       }
 
 -- a decision whose new state is well-formed
 abbrev Forms : Memory → Decision → Type 0
 Forms m (refuses number after) = WellFormed after m
-Forms m (turns told after) = WellFormed after m
+Forms m (accepts told after) = WellFormed after m
 Forms m (sends x after) = WellFormed after m
 
 either : (m : Memory) (t : Bool) (a b : Decision) → (t ≡ true → Forms m a) → Forms m b → Forms m (cond t a b)
@@ -112,7 +110,7 @@ module _ (l : Laptop) (m : Memory) (w : WellFormed l m) where
   pub step-formed : (d : Decision) → Forms m d → (room : ℕ) → WellFormed (stepOf l d room .laptop) m
   unfolding stepOf
   step-formed (refuses number after) f room = f
-  step-formed (turns told after) f room = f
+  step-formed (accepts told after) f room = f
   step-formed (sends x after) f room = go (eqb (writeRefusal x room) 0)
     where
       go : (t : Bool) → WellFormed ((cond t (sentBy (length (messageBytes x)) after) (refusedBy (writeRefusal x room) l)) .laptop) m
@@ -133,8 +131,8 @@ module _ (l : Laptop) (m : Memory) (w : WellFormed l m) where
   next-formed : anyEntered (m .entered) ≡ false → (c : Candidate) → l .candidate ≡ c → Forms m (asksNext l (m .svids) c)
   unfolding asksNext
   next-formed n Absent e = asked-formed l m w n
-  next-formed n Open e = awaiting-formed l m w _ (inr (inl (refl, e))) (λ a. n)
-  next-formed n Done e = awaiting-formed l m w _ (inr (inr (inl (refl, e)))) (λ a. n)
+  next-formed n Open e = awaiting-formed l m w _ (inr (inl (refl, e))) (λ a. n) (λ h. absurd (omega arith))
+  next-formed n Done e = awaiting-formed l m w _ (inr (inr (inl (refl, e)))) (λ a. n) (λ h. absurd (omega arith))
 
   pub next-keeps : Forms m (decideNext l (m .svids) (m .entered) (length (m .run)) (length (m .heldRun)))
   unfolding decideNext
@@ -156,51 +154,53 @@ module _ (l : Laptop) (m : Memory) (w : WellFormed l m) where
       go true ec = absurd (omega (arith, eqb-true (r .command) 1 ec))
       go false ec = rw (e, ec)
 
-  mode-formed : (r : Request) → l .candidate ≡ Absent → 4 ≤ r .command → WellFormed (awaiting r l) m
-  mode-formed r e h = awaiting-formed l m w r (inr (inr (inr (h, e)))) (quiet r e h)
+  mode-formed : (r : Request) → l .candidate ≡ Absent → 4 ≤ r .command → ModeFits (Answer r) l m → WellFormed (awaiting r l) m
+  mode-formed r e h k = awaiting-formed l m w r (inr (inr (inr (h, e)))) (quiet r e h) k
 
   absent-zero : (c : Candidate) → _≡_ {A = ℕ} (cond (isAbsent c) 0 13) 0 → c ≡ Absent
   absent-zero Absent z = refl
   absent-zero Open z = absurd (omega arith)
   absent-zero Done z = absurd (omega arith)
 
+  abbrev held : List ℕ
+  held = heldList (l .held) (m .heldSvids)
+
   pub enter-keeps : (svid position : ℕ) →
       Forms m (decideEnter l (m .heldSvids) (m .heldModes) (m .entered) (length (m .run)) (length (m .heldRun)) svid position)
   unfolding decideEnter
   enter-keeps svid position =
-      unless-formed _ _ (λ a. unless-formed _ _ (λ z. unless-formed _ _ (λ b. mode-formed _ (absent-zero (l .candidate) z) (omega arith))))
+      unless-formed _ _
+      (λ a.
+      unless-formed _ _
+      (λ z.
+      unless-formed _ _
+      (λ b.
+      let free = enter-free held (m .heldModes) (m .entered) svid position b in
+      mode-formed _ (absent-zero (l .candidate) z) (omega arith) (λ h. inl (refl, (placeOf svid held, free .0, free .1, free .2))))))
 
   -- exit is refused unless a mode is entered, and then there is no candidate
-  exit-entered : (list : List ℕ) (svid position : ℕ) → exitRefusal list (m .heldModes) (m .entered) svid position ≡ 0 →
-      isEntered (m .entered) (placeOf svid list) position ≡ true
-  unfolding exitRefusal
-  exit-entered list svid position z =
-      go (ltb (placeOf svid list) (length list)) (eqb position 7 || hasMode (m .heldModes) (placeOf svid list) position)
-      (isEntered (m .entered) (placeOf svid list) position) z
-    where
-      go : (a b t : Bool) → _≡_ {A = ℕ} (cond a (cond b (cond t 0 13) 12) 12) 0 → t ≡ true
-      go true true true e = refl
-      go true true false e = absurd (omega arith)
-      go true false t e = absurd (omega arith)
-      go false b t e = absurd (omega arith)
+  some-entered : (position i : ℕ) → AnyOf (m .entered) position i → anyEntered (m .entered) ≡ false → ⊥
+  some-entered position i (inl x) n = none-entered (m .entered) n i position x
+  some-entered position i (inr x) n = none-entered (m .entered) n i (x .1 .0) (x .1 .1)
 
-  entered-none : (place position : ℕ) → anyEntered (m .entered) ≡ false → isEntered (m .entered) place position ≡ false
-  unfolding isEntered
-  entered-none place position n = rw (none-at (m .entered) n place)
-
-  exit-absent : (list : List ℕ) (svid position : ℕ) → exitRefusal list (m .heldModes) (m .entered) svid position ≡ 0 → l .candidate ≡ Absent
-  exit-absent list svid position z = go (isAbsent (l .candidate)) refl
+  exit-absent : (position i : ℕ) → AnyOf (m .entered) position i → l .candidate ≡ Absent
+  exit-absent position i x = go (isAbsent (l .candidate)) refl
     where
       go : (t : Bool) → isAbsent (l .candidate) ≡ t → l .candidate ≡ Absent
       go true e = absent-is (l .candidate) e
-      go false e =
-          absurd (false≢true (sym (entered-none (placeOf svid list) position (w .none-entered (rw e))) ∙ exit-entered list svid position z))
+      go false e = absurd (some-entered position i x (w .none-entered (rw e)))
 
   pub exit-keeps : (svid position : ℕ) →
       Forms m (decideExit l (m .heldSvids) (m .heldModes) (m .entered) (length (m .run)) (length (m .heldRun)) svid position)
   unfolding decideExit
   exit-keeps svid position =
-      unless-formed _ _ (λ a. unless-formed _ _ (λ z. mode-formed _ (exit-absent (heldList (l .held) (m .heldSvids)) svid position z) (omega arith)))
+      unless-formed _ _
+      (λ a.
+      unless-formed _ _
+      (λ z.
+      let free = exit-free held (m .heldModes) (m .entered) svid position z in
+      mode-formed _ (exit-absent position (placeOf svid held) (free .2)) (omega arith)
+      (λ h. inr (refl, (placeOf svid held, free .0, free .1, free .2)))))
 
   over-keeps : (r : Request) (told : Told) → Forms m (over l r told)
   unfolding over
@@ -218,10 +218,10 @@ module _ (l : Laptop) (m : Memory) (w : WellFormed l m) where
   error-keeps (Answer r) = over-keeps r (ProtocolError r)
 
 -- a fresh laptop, with what it is lent
-zeros-most : (n i : ℕ) → getD (replicate n 0) i 0 ≤ 63
-zeros-most zero i = omega arith
-zeros-most (suc n) zero = omega arith
-zeros-most (suc n) (suc i) = zeros-most n i
+zeros-at : (n i : ℕ) → _≡_ {A = ℕ} (getD (replicate n 0) i 0) 0
+zeros-at zero i = refl
+zeros-at (suc n) zero = refl
+zeros-at (suc n) (suc i) = zeros-at n i
 
 pub fresh-formed : (m : Memory) → Lent m → m .entered ≡ replicate 72 0 → WellFormed freshLaptop m
 fresh-formed m lent e =
@@ -231,5 +231,10 @@ fresh-formed m lent e =
       candidate-fits = tt;
       wait-fits = tt;
       none-entered = λ a. absurd (false≢true a);
-      sets-fit = λ i. subst (λ (l : List ℕ). getD l i 0 ≤ 63) (sym e) (zeros-most 72 i);
+      sets-fit = λ i. omega (arith, empty i);
+      entered-held = λ i p s. absurd (none-set (getD (m .entered) i 0) (ap sixBits (empty i)) p s);
+      mode-fits = tt;
     }
+  where
+    empty : (i : ℕ) → getD (m .entered) i 0 ≡ 0
+    empty i = ap (λ (l : List ℕ). getD l i 0) e ∙ zeros-at 72 i

@@ -4,7 +4,7 @@ use mathlib.Core.List.{List, [], _∷_}
 use Prim.Native.Nat.{ℕ}
 use lib.ListN.{length, replicate}
 use Rattle.laptop.specs.Calls.{Decision, Stepped}
-use Rattle.laptop_laws.specs.Done.{Call, message, next, startOver, drop, enter, exit, timer, protocolError, done, Kept, keptAfter}
+use Rattle.laptop_laws.specs.Effects.{Call, message, next, startOver, drop, enter, exit, timer, protocolError, effectOf, Kept, keptAfter}
 use Rattle.laptop.specs.State.{Memory, freshLaptop}
 use Rattle.laptop_laws.specs.WellFormed.{Lent, WellFormed}
 use Rattle.laptop.specs.declared.Laptop.{Laptop}
@@ -14,7 +14,7 @@ use Rattle.laptop_laws.proofs.Keeping.{step-formed, next-keeps, start-k
 
 -- a well-formed laptop is well-formed after every call
 pub keeps : (c : Call) (l : Laptop) (m : Memory) (out : List ℕ) → WellFormed l m →
-    WellFormed (done c l m out .step .laptop) (done c l m out .after)
+    WellFormed (effectOf c l m out .step .laptop) (effectOf c l m out .after)
 keeps (message bytes) l m out w = message-keeps l m w bytes
 keeps next l m out w = step-formed l m w _ (next-keeps l m w) (length out)
 keeps startOver l m out w = step-formed l m w _ (start-keeps l m w) (length out)

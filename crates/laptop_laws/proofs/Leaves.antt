@@ -14,11 +14,11 @@ use Rattle.pages.specs.Pages.{halves}
 use Rattle.taking.specs.declared.Verdict.{Verdict}
 use Rattle.taking.specs.declared.Verdict.the-variants.{Bad, Repeat, More, Ends}
 use Rattle.laws.specs.Padded.{padded}
-use Rattle.gathering.specs.Gathering.{Opening, Gathering, gathering, hearIdentity, unlessLast, takeAs, takePage, hearSvids}
-use Rattle.hearing.specs.Answers.{Marking, Filling, filling, storeModes, hearModes, hearMode, isWhole}
-use Rattle.laptop.specs.Calls.{Decision, refuses, turns, sends, refusedBy, sentBy, stepOf, bufferOf, shortRuns}
-use Rattle.laptop_laws.specs.Done.{Call, message, next, startOver, drop, enter, exit, timer, protocolError, done}
-use Rattle.hearing.specs.Hearing.{Result, fits, withOpening, withGathering, withFilling, withMarking, settledStep, settledList, settledRun, settled, hearAnswer, hear, heard}
+use Rattle.gathering.specs.Gathering.{Opening, Gathering, gathering, hearIdentity, unlessLast, takeAs, takePage, noneGathered, hearSvids}
+use Rattle.hearing.specs.Answers.{Marking, Storing, storing, storeModes, hearModes, hearMode, isWhole}
+use Rattle.laptop.specs.Calls.{Decision, refuses, accepts, sends, refusedBy, sentBy, stepOf, bufferOf, shortRuns}
+use Rattle.laptop_laws.specs.Effects.{Call, message, next, startOver, drop, enter, exit, timer, protocolError, effectOf}
+use Rattle.hearing.specs.Hearing.{Result, fits, withOpening, withGathering, withStoring, withMarking, stepIfWhole, listIfWhole, runIfWhole, publishedIfWhole, publishing, hearAnswer, hear, heard}
 use Rattle.laptop.specs.State.{Memory, memory, dropped, counted, published}
 use Rattle.laptop.specs.declared.Laptop.{Laptop}
 use Rattle.laptop.specs.declared.Step.{Step}
@@ -28,10 +28,10 @@ left-alone : (m : Message) (out : List ℕ) → eqb (writeRefusal m (length out)
 unfolding written
 left-alone m out e = rw e
 
-buffer-left : (l : Laptop) (d : Decision) (out : List ℕ) → (stepOf l d (length out) .refusal ≡ 0 → ⊥) → bufferOf d out ≡ out
+pub buffer-left : (l : Laptop) (d : Decision) (out : List ℕ) → (stepOf l d (length out) .refusal ≡ 0 → ⊥) → bufferOf d out ≡ out
 unfolding stepOf bufferOf
 buffer-left l (refuses number after) out h = refl
-buffer-left l (turns told after) out h = refl
+buffer-left l (accepts told after) out h = refl
 buffer-left l (sends m after) out h = go (eqb (writeRefusal m (length out)) 0) refl h
   where
     go : (t : Bool) → eqb (writeRefusal m (length out)) 0 ≡ t →
@@ -47,17 +47,18 @@ either : (m : Memory) (t : Bool) (a b : Result) → Leaves m a → Leaves m b �
 either m true a b la lb = la
 either m false a b la lb = lb
 
-settled-refusal : (s : Step) → settledStep s .refusal ≡ s .refusal
-unfolding settledStep
-settled-refusal s = go (isWhole (s .laptop))
+-- publishing refuses nothing
+pub whole-refusal : (s : Step) → stepIfWhole s .refusal ≡ s .refusal
+unfolding stepIfWhole
+whole-refusal s = go (isWhole (s .laptop))
   where
     go : (t : Bool) → (cond t (record { refusal = s .refusal; length = s .length; told = s .told; laptop = published (s .laptop) }) s) .refusal ≡ s .refusal
     go true = refl
     go false = refl
 
 -- with a candidate that is not whole nothing is published
-held-left : (r : Result) → isWhole (r .step .laptop) ≡ false → settled r .after ≡ r .after
-unfolding settledList settledRun
+held-left : (r : Result) → isWhole (r .step .laptop) ≡ false → publishedIfWhole r .after ≡ r .after
+unfolding listIfWhole runIfWhole
 held-left r e = rw e
 
 -- what a refused page leaves: the list, and no whole candidate
@@ -88,38 +89,44 @@ unfolding hearSvids takePage
 svids-leave l kind values svids =
     page-either svids (eqb kind 1) _ _ (taken-leaves (counted l) svids values _ _)
     (page-either svids (eqb kind 3) _ _ (λ h. absurd (h refl))
-    (page-either svids (eqb (l .gathered .count) 0) _ _ (λ h. absurd (h refl)) (void-page l svids 8)))
+    (page-either svids (noneGathered l) _ _ (λ h. absurd (h refl)) (void-page l svids 8)))
 
-gathering-leaves : (m : Memory) (g : Gathering) → PageLeaves (m .svids) g → Leaves m (settled (withGathering m g))
-gathering-leaves m g p n =
-    let left = p (λ z. n (settled-refusal (g .step) ∙ z)) in
-    held-left (withGathering m g) (left .1) ∙
-    ap (λ (v : List ℕ). memory v (m .modes) (m .identity) (m .run) (m .heldSvids) (m .heldModes) (m .heldIdentity) (m .heldRun) (m .entered)) (left .0)
+gathering-leaves : (m : Memory) (kind : ℕ) (g : Gathering) → PageLeaves (m .svids) g → Leaves m (publishing kind (withGathering m g))
+unfolding publishing
+gathering-leaves m kind g p =
+    either m (eqb kind 3) _ _ (λ n. same (p n .0))
+    (λ n. let left = p (λ z. n (whole-refusal (g .step) ∙ z)) in held-left (withGathering m g) (left .1) ∙ same (left .0))
+  where
+    same : g .svids ≡ m .svids → withGathering m g .after ≡ m
+    same e = ap (λ (v : List ℕ). memory v (m .modes) (m .identity) (m .run) (m .heldSvids) (m .heldModes) (m .heldIdentity) (m .heldRun) (m .entered)) e
 
 -- the same of Modes
-abbrev FillLeaves : List ℕ → List ℕ → Filling → Type 0
-FillLeaves modes run f = (f .step .refusal ≡ 0 → ⊥) → (f .modes ≡ modes) × (f .run ≡ run) × (isWhole (f .step .laptop) ≡ false)
+abbrev StoreLeaves : List ℕ → List ℕ → Storing → Type 0
+StoreLeaves modes run f = (f .step .refusal ≡ 0 → ⊥) → (f .modes ≡ modes) × (f .run ≡ run) × (isWhole (f .step .laptop) ≡ false)
 
-fill-either : (modes run : List ℕ) (t : Bool) (a b : Filling) → FillLeaves modes run a → FillLeaves modes run b → FillLeaves modes run (cond t a b)
-fill-either modes run true a b la lb = la
-fill-either modes run false a b la lb = lb
+store-either : (modes run : List ℕ) (t : Bool) (a b : Storing) → StoreLeaves modes run a → StoreLeaves modes run b → StoreLeaves modes run (cond t a b)
+store-either modes run true a b la lb = la
+store-either modes run false a b la lb = lb
 
-void-fill : (l : Laptop) (modes run : List ℕ) → FillLeaves modes run (filling (refusedBy 8 (dropped l)) modes run)
+void-store : (l : Laptop) (modes run : List ℕ) → StoreLeaves modes run (storing (refusedBy 8 (dropped l)) modes run)
 unfolding isWhole
-void-fill l modes run n = (refl, refl, refl)
+void-store l modes run n = (refl, refl, refl)
 
-modes-leave : (l : Laptop) (kind : ℕ) (words modes run : List ℕ) → FillLeaves modes run (hearModes l kind words modes run)
+modes-leave : (l : Laptop) (kind : ℕ) (words modes run : List ℕ) → StoreLeaves modes run (hearModes l kind words modes run)
 unfolding hearModes storeModes
 modes-leave l kind words modes run =
-    fill-either modes run (eqb kind 3) _ _ (λ h. absurd (h refl))
-    (fill-either modes run (eqb kind 1) _ _ (fill-either modes run (ltb (l .filled) 72) _ _ (λ h. absurd (h refl)) (void-fill l modes run))
-    (void-fill l modes run))
+    store-either modes run (eqb kind 3) _ _ (λ h. absurd (h refl))
+    (store-either modes run (eqb kind 1) _ _ (store-either modes run (ltb (l .stored) 72) _ _ (λ h. absurd (h refl)) (void-store l modes run))
+    (void-store l modes run))
 
-filling-leaves : (m : Memory) (f : Filling) → FillLeaves (m .modes) (m .run) f → Leaves m (settled (withFilling m f))
-filling-leaves m f p n =
-    let left = p (λ z. n (settled-refusal (f .step) ∙ z)) in
-    held-left (withFilling m f) (left .2) ∙
-    ap₂ (λ (o r : List ℕ). memory (m .svids) o (m .identity) r (m .heldSvids) (m .heldModes) (m .heldIdentity) (m .heldRun) (m .entered)) (left .0) (left .1)
+storing-leaves : (m : Memory) (kind : ℕ) (f : Storing) → StoreLeaves (m .modes) (m .run) f → Leaves m (publishing kind (withStoring m f))
+unfolding publishing
+storing-leaves m kind f p =
+    either m (eqb kind 3) _ _ (λ n. same (p n .0) (p n .1))
+    (λ n. let left = p (λ z. n (whole-refusal (f .step) ∙ z)) in held-left (withStoring m f) (left .2) ∙ same (left .0) (left .1))
+  where
+    same : f .modes ≡ m .modes → f .run ≡ m .run → withStoring m f .after ≡ m
+    same e r = ap₂ (λ (o u : List ℕ). memory (m .svids) o (m .identity) u (m .heldSvids) (m .heldModes) (m .heldIdentity) (m .heldRun) (m .entered)) e r
 
 -- an answer to Identity, Enter or Exit that fits is accepted
 opening-leaves : (m : Memory) (t : Bool) (a b : Opening) → a .step .refusal ≡ 0 → b .step .refusal ≡ 0 → Leaves m (withOpening m (cond t a b))
@@ -143,8 +150,8 @@ answer-leaves : (l : Laptop) (m : Memory) (x : Message) → Leaves m (hearAnswer
 unfolding hearAnswer
 answer-leaves l m x =
     either m (eqb (x .head .command) 1) _ _ (identity-leaves l m (x .head .kind) (length (x .objects)) (padded (x .objects)))
-    (either m (eqb (x .head .command) 2) _ _ (gathering-leaves m _ (svids-leave l (x .head .kind) (halves (x .objects)) (m .svids)))
-    (either m (eqb (x .head .command) 3) _ _ (filling-leaves m _ (modes-leave l (x .head .kind) (x .objects) (m .modes) (m .run)))
+    (either m (eqb (x .head .command) 2) _ _ (gathering-leaves m (x .head .kind) _ (svids-leave l (x .head .kind) (halves (x .objects)) (m .svids)))
+    (either m (eqb (x .head .command) 3) _ _ (storing-leaves m (x .head .kind) _ (modes-leave l (x .head .kind) (x .objects) (m .modes) (m .run)))
     (mode-leaves l m (x .head .kind) (requestOf (x .head)))))
 
 refused-leaves : (l : Laptop) (m : Memory) (number : ℕ) → Leaves m (hear l m (refused number))
@@ -165,8 +172,8 @@ message-leaves l m o = either m (shortRuns (length (m .run)) (length (m .heldRun
     go (accepted x) = accepted-leaves l m x
 
 -- a refusal changes no lent byte: nothing that a call is lent, and nothing of the output buffer
-pub refusal-leaves : (c : Call) (l : Laptop) (m : Memory) (out : List ℕ) → (done c l m out .step .refusal ≡ 0 → ⊥) →
-    (done c l m out .after ≡ m) × (done c l m out .buffer ≡ out)
+pub refusal-leaves : (c : Call) (l : Laptop) (m : Memory) (out : List ℕ) → (effectOf c l m out .step .refusal ≡ 0 → ⊥) →
+    (effectOf c l m out .after ≡ m) × (effectOf c l m out .buffer ≡ out)
 refusal-leaves (message bytes) l m out n = (message-leaves l m (readOutcome bytes) n, refl)
 refusal-leaves next l m out n = (refl, buffer-left l _ out n)
 refusal-leaves startOver l m out n = (refl, buffer-left l _ out n)

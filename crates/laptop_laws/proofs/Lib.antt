@@ -1,9 +1,20 @@
 -- What the laptop keeps, a file for each topic.
 pub mod Answering
 pub mod Behind
+pub mod Bits
+pub mod CatalogueGiven
+pub mod Completing
 pub mod Copies
+pub mod First
+pub mod Fitting
+pub mod Given
 pub mod Keeping
 pub mod Laws
 pub mod Leaves
+pub mod Marks
+pub mod MessageGiven
+pub mod ModesGiven
+pub mod OwnerGiven
+pub mod Places
 pub mod Refusing
 pub mod Replacing

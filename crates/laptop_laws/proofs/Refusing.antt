@@ -1,31 +1,25 @@
--- A refusal does to the state what the paper says, whatever the call.
-use mathlib.Core.Path.{_≡_, refl, ap, _∙_}
-use mathlib.Core.Bool.{Bool, true, false, cond, not, _&&_, _||_, false≢true}
-use mathlib.Core.List.{List, [], _∷_}
-use Prim.Native.Nat.{ℕ, suc, _+_, _<_}
+-- A refusal leaves the state that the paper says, whatever the call.
+use mathlib.Core.Path.{_≡_, refl, ap, sym, _∙_, subst}
+use mathlib.Core.Bool.{Bool, true, false, cond, _&&_}
+use mathlib.Core.List.{List}
+use Prim.Native.Nat.{ℕ, _/_}
 use native.Mathlib.Omega.{arith}
 use lib.Dec.{leb, ltb, eqb}
 use lib.ListN.{length}
-use Rattle.laws.specs.Lines.{firstLine}
-use Rattle.laws.specs.Padded.{padded}
-use Rattle.laws.proofs.Lines.{and-left, and-right}
+use borrow.Author.Tests.{ne-eqb, eqb-true}
 use Rattle.messages.specs.Layout.{Message, messageBytes}
-use Rattle.messages.specs.Reading.{Outcome, accepted, refused, readLines, readRefusal, readOutcome}
-use Rattle.messages.specs.Requests.{requestOf}
-use Rattle.messages.specs.Writing.{wellShaped, writeRefusal}
-use Rattle.messages.specs.declared.Head.{Head}
+use Rattle.messages.specs.Reading.{accepted, refused, outcome, wrongLength, unstructured, wrongMajor, reservedSet, wrongShape, headerIn, messageIn, readRefusal, readOutcome}
+use Rattle.messages.specs.Writing.{writeRefusal}
 use Rattle.messages.specs.declared.request.Request.{Request}
-use Rattle.messages.proofs.Refusals.{outcome-refused}
 use Rattle.pages.specs.Pages.{halves}
 use Rattle.taking.specs.declared.Verdict.{Verdict}
 use Rattle.taking.specs.declared.Verdict.the-variants.{Bad, Repeat, More, Ends}
-use Rattle.gathering.specs.Gathering.{Opening, Gathering, hearIdentity, unlessLast, takeAs, takePage, hearSvids}
-use Rattle.hearing.specs.Answers.{Filling, Marking, storeModes, hearModes, hearMode, isWhole}
-use Rattle.laptop.specs.Calls.{Decision, refuses, turns, sends, refusedBy, sentBy, stepOf, unless, shortRuns, isAwaiting}
-use Rattle.hearing.specs.Hearing.{Result, isIdle, isOpen, hearRequest, fits, isLatePage, hearUnawaited, withOpening, withMarking, settledStep, hearAnswer, hear, heard}
-use Rattle.laptop.specs.Marks.{placeOf, isEntered}
-use Rattle.owner.specs.Owner.{ownerRefusal, anyEntered, askingRefusal, asksNext, decideNext, decideStartOver, decideDrop, hasMode, isAbsent, enterRefusal, decideEnter, exitRefusal, decideExit}
-use Rattle.laptop.specs.State.{Memory, dropped, counted, published}
+use Rattle.gathering.specs.Gathering.{Gathering, unlessLast, takeAs, takePage, noneGathered, hearSvids}
+use Rattle.hearing.specs.Answers.{Storing, storeModes, hearModes, isWhole}
+use Rattle.laptop.specs.Calls.{Decision, refuses, accepts, sends, refusedBy, sentBy, stepOf, unless, shortRuns}
+use Rattle.hearing.specs.Hearing.{Result, isIdle, hearRequest, fits, isLatePage, hearUnawaited, stepIfWhole, publishedIfWhole, publishing, hearAnswer, hear, heard}
+use Rattle.owner.specs.Owner.{asksNext, decideNext, decideStartOver, decideDrop, decideEnter, decideExit}
+use Rattle.laptop.specs.State.{isOpen, Memory, dropped, counted}
 use Rattle.timers.specs.Timers.{over, decideTimer, decideError}
 use Rattle.laptop.specs.declared.Candidate.{Candidate}
 use Rattle.laptop.specs.declared.Candidate.the-variants.{Absent, Open, Done}
@@ -35,259 +29,258 @@ use Rattle.laptop.specs.declared.Told.{Told}
 use Rattle.laptop.specs.declared.Told.the-variants.{Timer, ProtocolError}
 use Rattle.laptop.specs.declared.Wait.{Wait}
 use Rattle.laptop.specs.declared.Wait.the-variants.{Nothing, Answer}
-use Rattle.laptop_laws.specs.Done.{Call, message, next, startOver, drop, enter, exit, timer, protocolError, done}
-use Rattle.laptop_laws.specs.Refusing.{LeavesAlone, RefusedAs, taken, leaves, drops, voids, voids-page, two-hundred}
+use Rattle.laptop_laws.specs.Effects.{Call, message, next, startOver, drop, enter, exit, timer, protocolError, effectOf}
+use Rattle.laptop_laws.specs.Given.{lines}
+use Rattle.laptop_laws.specs.Refusing.{bringsPage, leftBy, RefusedAs}
+use Rattle.laptop_laws.proofs.Given.{Without, never-without}
+use Rattle.laptop_laws.proofs.Leaves.{whole-refusal}
+use Rattle.laptop_laws.proofs.MessageGiven.{identity-number, mode-number}
 
--- numbers of the table
-alone : (t : Bool) (a b : ℕ) → LeavesAlone a → LeavesAlone b → LeavesAlone (cond t a b)
-alone true a b fa fb = fa
-alone false a b fa fb = fb
-
-none-alone : LeavesAlone 0
-none-alone = (omega arith, λ e. omega arith)
-
-twelve-alone : LeavesAlone 12
-twelve-alone = (omega arith, λ e. omega arith)
-
-thirteen-alone : LeavesAlone 13
-thirteen-alone = (omega arith, λ e. omega arith)
-
-eleven-alone : LeavesAlone 11
-eleven-alone = (omega arith, λ e. omega arith)
-
-write-alone : (m : Message) (room : ℕ) → LeavesAlone (writeRefusal m room)
-unfolding writeRefusal
-write-alone m room =
-    alone (not (wellShaped m)) _ _ (omega arith, λ e. omega arith) (alone (ltb room (length (messageBytes m))) _ _ eleven-alone none-alone)
-
-owner-alone : (l : Laptop) (run heldRun : ℕ) → LeavesAlone (ownerRefusal l run heldRun)
-unfolding ownerRefusal
-owner-alone l run heldRun =
-    alone (shortRuns run heldRun) _ _ eleven-alone (alone (isAwaiting (l .wait)) _ _ (omega arith, λ e. omega arith) none-alone)
-
-asking-alone : (l : Laptop) (entered : List ℕ) (run heldRun : ℕ) → LeavesAlone (askingRefusal l entered run heldRun)
-unfolding askingRefusal
-asking-alone l entered run heldRun =
-    alone (eqb (ownerRefusal l run heldRun) 0) _ _ (alone (anyEntered entered) _ _ thirteen-alone none-alone) (owner-alone l run heldRun)
-
-enter-alone : (list modes entered : List ℕ) (svid position : ℕ) → LeavesAlone (enterRefusal list modes entered svid position)
-unfolding enterRefusal
-enter-alone list modes entered svid position =
-    alone (ltb (placeOf svid list) (length list)) _ _
-    (alone (hasMode modes (placeOf svid list) position) _ _
-    (alone (isEntered entered (placeOf svid list) position) _ _ thirteen-alone none-alone) twelve-alone) twelve-alone
-
-exit-alone : (list modes entered : List ℕ) (svid position : ℕ) → LeavesAlone (exitRefusal list modes entered svid position)
-unfolding exitRefusal
-exit-alone list modes entered svid position =
-    alone (ltb (placeOf svid list) (length list)) _ _
-    (alone (eqb position 7 || hasMode modes (placeOf svid list) position) _ _
-    (alone (isEntered entered (placeOf svid list) position) _ _ none-alone thirteen-alone) twelve-alone) twelve-alone
-
--- reading refuses 1 to 5
-first-most : (n : ℕ) (lines : List Bool) → firstLine n lines < n + length lines + 1
-first-most n [] = omega arith
-first-most n (line ∷ lines) = go line (first-most (n + 1) lines)
-  where
-    go : (t : Bool) → firstLine (n + 1) lines < n + 1 + length lines + 1 → cond t n (firstLine (n + 1) lines) < n + suc (length lines) + 1
-    go true h = omega arith
-    go false h = omega arith
-
-read-alone : (bytes : List ℕ) (number : ℕ) → readOutcome bytes ≡ refused number → LeavesAlone number
-unfolding readRefusal
-read-alone bytes number e =
-    let most = first-most 1 (readLines bytes) in
-    let same = outcome-refused bytes number e in
-    (omega arith, λ z. omega arith)
-
--- what a call decides
-abbrev DecidesSo : Laptop → Decision → Type 0
-DecidesSo l (refuses number after) = LeavesAlone number × (after ≡ l)
-DecidesSo l (turns told after) = Unit
-DecidesSo l (sends m after) = Unit
-
+-- a call that is no message: its decision refuses only with the state as it was
 module _ (l : Laptop) where
-  either : (t : Bool) (a b : Decision) → DecidesSo l a → DecidesSo l b → DecidesSo l (cond t a b)
+  abbrev Alone : Decision → Type 0
+  Alone (refuses number after) = after ≡ l
+  Alone (accepts told after) = Unit
+  Alone (sends m after) = Unit
+
+  either : (t : Bool) (a b : Decision) → Alone a → Alone b → Alone (cond t a b)
   either true a b fa fb = fa
   either false a b fa fb = fb
 
-  unless-so : (number : ℕ) (d : Decision) → LeavesAlone number → DecidesSo l d → DecidesSo l (unless number l d)
+  unless-alone : (number : ℕ) (d : Decision) → Alone d → Alone (unless number l d)
   unfolding unless
-  unless-so number d n f = either (eqb number 0) d _ f (n, refl)
+  unless-alone number d f = either (eqb number 0) d _ f refl
 
-  next-so : (svids : List ℕ) (c : Candidate) → DecidesSo l (asksNext l svids c)
+  next-alone : (svids : List ℕ) (c : Candidate) → Alone (asksNext l svids c)
   unfolding asksNext
-  next-so svids Absent = tt
-  next-so svids Open = tt
-  next-so svids Done = tt
+  next-alone svids Absent = tt
+  next-alone svids Open = tt
+  next-alone svids Done = tt
 
-  over-so : (r : Request) (told : Told) → DecidesSo l (over l r told)
+  over-alone : (r : Request) (told : Told) → Alone (over l r told)
   unfolding over
-  over-so r told = either (eqb (r .command) 1) _ _ tt (either (ltb (r .command) 4) _ _ tt tt)
+  over-alone r told = either (eqb (r .command) 1) _ _ tt (either (ltb (r .command) 4) _ _ tt tt)
 
-  nine-so : DecidesSo l (refuses 9 l)
-  nine-so = ((omega arith, λ e. omega arith), refl)
-
-  timer-so : (first last : ℕ) (w : Wait) → DecidesSo l (decideTimer first last l w)
+  timer-alone : (first last : ℕ) (w : Wait) → Alone (decideTimer first last l w)
   unfolding decideTimer
-  timer-so first last Nothing = nine-so
-  timer-so first last (Answer r) = either (leb first (r .command) && leb (r .command) last) _ _ (over-so r (Timer r)) nine-so
+  timer-alone first last Nothing = refl
+  timer-alone first last (Answer r) = either (leb first (r .command) && leb (r .command) last) _ _ (over-alone r (Timer r)) refl
 
-  error-so : (w : Wait) → DecidesSo l (decideError l w)
+  error-alone : (w : Wait) → Alone (decideError l w)
   unfolding decideError
-  error-so Nothing = nine-so
-  error-so (Answer r) = over-so r (ProtocolError r)
+  error-alone Nothing = refl
+  error-alone (Answer r) = over-alone r (ProtocolError r)
 
-  step-so : (d : Decision) → DecidesSo l d → (room : ℕ) → RefusedAs l (stepOf l d room)
+  step-alone : (d : Decision) → Alone d → (room : ℕ) → (stepOf l d room .refusal ≡ 0 → ⊥) → stepOf l d room ≡ refusedBy (stepOf l d room .refusal) l
   unfolding stepOf
-  step-so (refuses number after) f room = leaves number (f .0) (ap (refusedBy number) (f .1))
-  step-so (turns told after) f room = taken refl
-  step-so (sends m after) f room = go (eqb (writeRefusal m room) 0)
+  step-alone (refuses number after) f room n = ap (refusedBy number) f
+  step-alone (accepts told after) f room n = absurd (n refl)
+  step-alone (sends m after) f room n = go (eqb (writeRefusal m room) 0) n
     where
-      go : (t : Bool) → RefusedAs l (cond t (sentBy (length (messageBytes m)) after) (refusedBy (writeRefusal m room) l))
-      go true = taken refl
-      go false = leaves (writeRefusal m room) (write-alone m room) refl
+      go : (t : Bool) → ((cond t (sentBy (length (messageBytes m)) after) (refusedBy (writeRefusal m room) l)) .refusal ≡ 0 → ⊥) →
+          _≡_ {A = Step} (cond t (sentBy (length (messageBytes m)) after) (refusedBy (writeRefusal m room) l))
+          (refusedBy ((cond t (sentBy (length (messageBytes m)) after) (refusedBy (writeRefusal m room) l)) .refusal) l)
+      go true k = absurd (k refl)
+      go false k = refl
 
-  -- a page or modes, before they are settled
-  data Voided (s : Step) : Type 0 where
-    passed : s .refusal ≡ 0 → Voided s
-    void : s ≡ refusedBy 8 (dropped l) → Voided s
-    void-page : s ≡ refusedBy 8 (dropped (counted l)) → Voided s
-    fourteen : s ≡ refusedBy 14 (dropped (counted l)) → Voided s
+-- 8 and 14 are no numbers of such a call
+alone-left : (c : Call) (l : Laptop) (number : ℕ) → bringsPage c ≡ false → (number ≡ 8 → ⊥) → (number ≡ 14 → ⊥) → leftBy number c l ≡ l
+alone-left c l number p a b = rw (ne-eqb number 8 a, ne-eqb number 14 b, p) (go (eqb number 6) (isIdle (l .wait)) (isOpen (l .candidate)))
+  where
+    go : (x y z : Bool) → cond (x && (y && (z && false))) (dropped l) l ≡ l
+    go true true true = refl
+    go true true false = refl
+    go true false z = refl
+    go false y z = refl
 
-  settled-dropped : (number : ℕ) (x : Laptop) → settledStep (refusedBy number (dropped x)) ≡ refusedBy number (dropped x)
-  unfolding settledStep isWhole
-  settled-dropped number x = refl
+-- a message
+module _ (l : Laptop) (bytes : List ℕ) where
+  abbrev So : Step → Type 0
+  So s = RefusedAs (message bytes) l s
 
-  settled-passed : (s : Step) → s .refusal ≡ 0 → settledStep s .refusal ≡ 0
-  unfolding settledStep
-  settled-passed s e = go (isWhole (s .laptop))
+  so-taken : (s : Step) → s .refusal ≡ 0 → So s
+  so-taken s e n = absurd (n e)
+
+  -- a page or modes, before anything is published: what is refused leaves no candidate
+  abbrev Drops : Step → Type 0
+  Drops s = (s .refusal ≡ 0 → ⊥) → (s ≡ refusedBy (s .refusal) (leftBy (s .refusal) (message bytes) l)) × (isWhole (s .laptop) ≡ false)
+
+  passed : (s : Step) → s .refusal ≡ 0 → Drops s
+  passed s e n = absurd (n e)
+
+  -- a bad page and the two hundredth are counted, what is no page is not
+  page-drops : bringsPage (message bytes) ≡ true → (Drops (refusedBy 8 (dropped (counted l)))) × (Drops (refusedBy 14 (dropped (counted l))))
+  unfolding isWhole
+  page-drops e = (
+    λ n. (ap (λ (t : Bool). refusedBy 8 (dropped (cond t (counted l) l))) (sym e), refl),
+    λ n. (ap (λ (t : Bool). refusedBy 14 (dropped (cond t (counted l) l))) (sym e), refl),
+  )
+
+  void-drops : bringsPage (message bytes) ≡ false → Drops (refusedBy 8 (dropped l))
+  unfolding isWhole
+  void-drops e n = (ap (λ (t : Bool). refusedBy 8 (dropped (cond t (counted l) l))) (sym e), refl)
+
+  not-whole : (s : Step) → isWhole (s .laptop) ≡ false → stepIfWhole s ≡ s
+  unfolding stepIfWhole
+  not-whole s e = rw e
+
+  whole-so : (s : Step) → Drops s → So (stepIfWhole s)
+  whole-so s f n =
+      let d = f (λ z. n (whole-refusal s ∙ z)) in
+      subst (λ (x : Step). x ≡ refusedBy (x .refusal) (leftBy (x .refusal) (message bytes) l)) (sym (not-whole s (d .1))) (d .0)
+
+  publishing-so : (kind : ℕ) (r : Result) → Drops (r .step) → So (publishing kind r .step)
+  unfolding publishing
+  publishing-so kind r f = go (eqb kind 3)
     where
-      go : (t : Bool) → (cond t (record { refusal = s .refusal; length = s .length; told = s .told; laptop = published (s .laptop) }) s) .refusal ≡ 0
-      go true = e
-      go false = e
+      go : (t : Bool) → So (cond t r (publishedIfWhole r) .step)
+      go true = λ n. f n .0
+      go false = whole-so (r .step) f
 
-  settled-so : (s : Step) → Voided s → RefusedAs l (settledStep s)
-  settled-so s (passed e) = taken (settled-passed s e)
-  settled-so s (void e) = voids (ap settledStep e ∙ settled-dropped 8 l)
-  settled-so s (void-page e) = voids-page (ap settledStep e ∙ settled-dropped 8 (counted l))
-  settled-so s (fourteen e) = two-hundred (ap settledStep e ∙ settled-dropped 14 (counted l))
+  page-either : (t : Bool) (a b : Gathering) → (t ≡ true → Drops (a .step)) → (t ≡ false → Drops (b .step)) → Drops (cond t a b .step)
+  page-either true a b fa fb = fa refl
+  page-either false a b fa fb = fb refl
 
-  page-either : (t : Bool) (a b : Gathering) → Voided (a .step) → Voided (b .step) → Voided (cond t a b .step)
-  page-either true a b fa fb = fa
-  page-either false a b fa fb = fb
+  module _ (page : bringsPage (message bytes) ≡ true) where
+    last-drops : (svids : List ℕ) (g : Gathering) → Drops (g .step) → Drops (unlessLast (counted l) svids g .step)
+    unfolding unlessLast
+    last-drops svids g f = page-either (leb 200 (counted l .pages)) _ g (λ e. page-drops page .1) (λ e. f)
 
-  last-so : (svids : List ℕ) (g : Gathering) → Voided (g .step) → Voided (unlessLast (counted l) svids g .step)
-  unfolding unlessLast
-  last-so svids g f = page-either (leb 200 (counted l .pages)) _ g (fourteen refl) f
+    taken-drops : (svids values : List ℕ) (n : ℕ) (v : Verdict) → Drops (takeAs (counted l) svids values n v .step)
+    unfolding takeAs
+    taken-drops svids values n Bad = page-drops page .0
+    taken-drops svids values n Repeat = last-drops svids _ (passed _ refl)
+    taken-drops svids values n More = last-drops svids _ (passed _ refl)
+    taken-drops svids values n (Ends k) = passed _ refl
 
-  taken-so : (svids values : List ℕ) (n : ℕ) (v : Verdict) → Voided (takeAs (counted l) svids values n v .step)
-  unfolding takeAs
-  taken-so svids values n Bad = void-page refl
-  taken-so svids values n Repeat = last-so svids _ (passed refl)
-  taken-so svids values n More = last-so svids _ (passed refl)
-  taken-so svids values n (Ends k) = passed refl
+  abbrev x : Message
+  x = messageIn bytes
 
-  svids-so : (kind : ℕ) (values svids : List ℕ) → Voided (hearSvids l kind values svids .step)
+  -- what a page is told by
+  is-page : eqb (x .head .command) 2 ≡ true → eqb (x .head .kind) 1 ≡ true → bringsPage (message bytes) ≡ true
+  is-page e f = rw (e, f)
+
+  other-command : eqb (x .head .command) 2 ≡ false → bringsPage (message bytes) ≡ false
+  other-command e = rw e
+
+  other-kind : eqb (x .head .kind) 1 ≡ false → bringsPage (message bytes) ≡ false
+  other-kind e = rw e (go (eqb (x .head .command) 2))
+    where
+      go : (t : Bool) → (t && false) ≡ false
+      go true = refl
+      go false = refl
+
+  svids-drops : eqb (x .head .command) 2 ≡ true → (values svids : List ℕ) → Drops (hearSvids l (x .head .kind) values svids .step)
   unfolding hearSvids takePage
-  svids-so kind values svids =
-      page-either (eqb kind 1) _ _ (taken-so svids values _ _)
-      (page-either (eqb kind 3) _ _ (passed refl) (page-either (eqb (l .gathered .count) 0) _ _ (passed refl) (void refl)))
+  svids-drops e values svids =
+      page-either (eqb (x .head .kind) 1) _ _ (λ a. taken-drops (is-page e a) svids values _ _)
+      (λ a.
+      page-either (eqb (x .head .kind) 3) _ _ (λ b. passed _ refl)
+      (λ b. page-either (noneGathered l) _ _ (λ z. passed _ refl) (λ z. void-drops (other-kind a))))
 
-  fill-either : (t : Bool) (a b : Filling) → Voided (a .step) → Voided (b .step) → Voided (cond t a b .step)
-  fill-either true a b fa fb = fa
-  fill-either false a b fa fb = fb
+  store-either : (t : Bool) (a b : Storing) → Drops (a .step) → Drops (b .step) → Drops (cond t a b .step)
+  store-either true a b fa fb = fa
+  store-either false a b fa fb = fb
 
-  modes-so : (kind : ℕ) (words modes run : List ℕ) → Voided (hearModes l kind words modes run .step)
+  modes-drop : eqb (x .head .command) 2 ≡ false → (words modes run : List ℕ) → Drops (hearModes l (x .head .kind) words modes run .step)
   unfolding hearModes storeModes
-  modes-so kind words modes run =
-      fill-either (eqb kind 3) _ _ (passed refl)
-      (fill-either (eqb kind 1) _ _ (fill-either (ltb (l .filled) 72) _ _ (passed refl) (void refl)) (void refl))
+  modes-drop e words modes run =
+      store-either (eqb (x .head .kind) 3) _ _ (passed _ refl)
+      (store-either (eqb (x .head .kind) 1) _ _ (store-either (ltb (l .stored) 72) _ _ (passed _ refl) (void-drops (other-command e)))
+      (void-drops (other-command e)))
 
-  -- a message
-  result-either : (t : Bool) (a b : Result) → (t ≡ true → RefusedAs l (a .step)) → (t ≡ false → RefusedAs l (b .step)) → RefusedAs l (cond t a b .step)
+  result-either : (t : Bool) (a b : Result) → (t ≡ true → So (a .step)) → (t ≡ false → So (b .step)) → So (cond t a b .step)
   result-either true a b fa fb = fa refl
   result-either false a b fa fb = fb refl
 
-  step-either : (t : Bool) (a b : Step) → (t ≡ true → RefusedAs l a) → RefusedAs l b → RefusedAs l (cond t a b)
-  step-either true a b fa fb = fa refl
-  step-either false a b fa fb = fb
-
-  six-leaves : RefusedAs l (refusedBy 6 l)
-  six-leaves = leaves 6 (omega arith, λ e. omega arith) refl
-
-  is-idle : (w : Wait) → isIdle w ≡ true → w ≡ Nothing
-  is-idle Nothing e = refl
-  is-idle (Answer r) e = absurd (false≢true e)
-
-  is-open : (c : Candidate) → isOpen c ≡ true → c ≡ Open
-  is-open Absent e = absurd (false≢true e)
-  is-open Open e = refl
-  is-open Done e = absurd (false≢true e)
-
-  unawaited-so : (h : Head) → RefusedAs l (hearUnawaited l h)
-  unfolding hearUnawaited isLatePage
-  unawaited-so h =
-      step-either (isLatePage l h) _ _
-      (λ e.
-      drops (is-idle (l .wait) (and-left (isIdle (l .wait)) _ e))
-      (is-open (l .candidate) (and-left (isOpen (l .candidate)) _ (and-right (isIdle (l .wait)) _ e))) refl) six-leaves
-
-  request-so : (h : Head) (count object : ℕ) → RefusedAs l (hearRequest l h count object)
-  unfolding hearRequest
-  request-so h count object = step-either (eqb (h .command) 6) _ _ (λ e. taken refl) six-leaves
-
-  identity-so : (m : Memory) (kind n : ℕ) (objects : List ℕ) → RefusedAs l (withOpening m (hearIdentity l kind n objects (m .svids) (m .identity)) .step)
-  unfolding hearIdentity
-  identity-so m kind n objects = go (eqb kind 1) _ _ refl refl
-    where
-      go : (t : Bool) (a b : Opening) → a .step .refusal ≡ 0 → b .step .refusal ≡ 0 → RefusedAs l (cond t a b .step)
-      go true a b ea eb = taken ea
-      go false a b ea eb = taken eb
-
-  mode-so : (m : Memory) (kind : ℕ) (r : Request) → RefusedAs l (withMarking m (hearMode l kind r (m .heldSvids) (m .entered)) .step)
-  unfolding hearMode
-  mode-so m kind r = go (eqb kind 1) _ _ refl refl
-    where
-      go : (t : Bool) (a b : Marking) → a .step .refusal ≡ 0 → b .step .refusal ≡ 0 → RefusedAs l (cond t a b .step)
-      go true a b ea eb = taken ea
-      go false a b ea eb = taken eb
-
-  answer-so : (m : Memory) (x : Message) → RefusedAs l (hearAnswer l m x .step)
+  answer-so : (m : Memory) → So (hearAnswer l m x .step)
   unfolding hearAnswer
-  answer-so m x =
-      result-either (eqb (x .head .command) 1) _ _ (λ e. identity-so m (x .head .kind) (length (x .objects)) (padded (x .objects)))
+  answer-so m =
+      result-either (eqb (x .head .command) 1) _ _ (λ e. so-taken _ (identity-number l (x .head .kind) _ _ _ _))
       (λ e.
-      result-either (eqb (x .head .command) 2) _ _ (λ f. settled-so _ (svids-so (x .head .kind) (halves (x .objects)) (m .svids)))
+      result-either (eqb (x .head .command) 2) _ _ (λ f. publishing-so (x .head .kind) _ (svids-drops f (halves (x .objects)) (m .svids)))
       (λ f.
-      result-either (eqb (x .head .command) 3) _ _ (λ g. settled-so _ (modes-so (x .head .kind) (x .objects) (m .modes) (m .run)))
-      (λ g. mode-so m (x .head .kind) (requestOf (x .head)))))
+      result-either (eqb (x .head .command) 3) _ _ (λ g. publishing-so (x .head .kind) _ (modes-drop f (x .objects) (m .modes) (m .run)))
+      (λ g. so-taken _ (mode-number l (x .head .kind) _ _ _))))
 
-  outcome-so : (m : Memory) (o : Outcome) → ((number : ℕ) → o ≡ refused number → LeavesAlone number) → RefusedAs l (hear l m o .step)
+  -- 6: a late page, or another answer that is not awaited; another REQ
+  step-either : (t : Bool) (a b : Step) → (t ≡ true → So a) → (t ≡ false → So b) → So (cond t a b)
+  step-either true a b fa fb = fa refl
+  step-either false a b fa fb = fb refl
+
+  unawaited-so : So (hearUnawaited l (x .head))
+  unfolding hearUnawaited isLatePage
+  unawaited-so =
+      step-either (isLatePage l (x .head)) _ _ (λ e n. ap (λ (t : Bool). refusedBy 6 (cond t (dropped l) l)) (sym e))
+      (λ e n. ap (λ (t : Bool). refusedBy 6 (cond t (dropped l) l)) (sym e))
+
+  request-so : eqb (x .head .kind) 1 ≡ false → (count object : ℕ) → So (hearRequest l (x .head) count object)
+  unfolding hearRequest
+  request-so k count object =
+      step-either (eqb (x .head .command) 6) _ _ (λ e. so-taken _ refl)
+      (λ e n. ap (refusedBy 6) (sym (go (isIdle (l .wait)) (isOpen (l .candidate)) (bringsPage (message bytes)) (other-kind k))))
+    where
+      go : (a b p : Bool) → p ≡ false → cond (a && (b && p)) (dropped l) l ≡ l
+      go true true p e = ap (λ (t : Bool). cond t (dropped l) l) e
+      go true false p e = refl
+      go false b p e = refl
+
+  accepted-so : (m : Memory) → So (hear l m (accepted x) .step)
   unfolding hear
-  outcome-so m (refused number) f = leaves number (f number refl) refl
-  outcome-so m (accepted x) f =
-      result-either (eqb (x .head .kind) 0) _ _ (λ e. request-so (x .head) _ _)
-      (λ e. result-either (fits (l .wait) (x .head)) _ _ (λ g. answer-so m x) (λ g. unawaited-so (x .head)))
+  accepted-so m =
+      result-either (eqb (x .head .kind) 0) _ _
+      (λ e. request-so (ne-eqb (x .head .kind) 1 (λ z. omega (arith, z, eqb-true (x .head .kind) 0 e))) _ _)
+      (λ e. result-either (fits (l .wait) (x .head)) _ _ (λ g. answer-so m) (λ g. unawaited-so))
 
-  message-so : (m : Memory) (bytes : List ℕ) → RefusedAs l (heard l m (readOutcome bytes) .step)
-  unfolding heard
-  message-so m bytes =
-      result-either (shortRuns (length (m .run)) (length (m .heldRun))) _ _ (λ e. leaves 11 eleven-alone refl)
-      (λ e. outcome-so m (readOutcome bytes) (λ number f. read-alone bytes number f))
+  -- 1 to 5 leave the state alone
+  read-left : leftBy (readRefusal bytes) (message bytes) l ≡ l
+  unfolding readRefusal
+  read-left =
+      go (wrongLength (length bytes)) (unstructured (headerIn bytes)) (wrongMajor (headerIn bytes)) (reservedSet (headerIn bytes))
+      (wrongShape (headerIn bytes) (length bytes / 4))
+    where
+      go : (a b c d e : Bool) → leftBy (cond a 1 (cond b 2 (cond c 3 (cond d 4 (cond e 5 0))))) (message bytes) l ≡ l
+      go true b c d e = refl
+      go false true c d e = refl
+      go false false true d e = refl
+      go false false false true e = refl
+      go false false false false true = refl
+      go false false false false false = refl
 
-pub refusal-state : (c : Call) (l : Laptop) (m : Memory) (out : List ℕ) → RefusedAs l (done c l m out .step)
-unfolding decideNext decideStartOver decideDrop decideEnter decideExit
-refusal-state (message bytes) l m out = message-so l m bytes
-refusal-state next l m out = step-so l _ (unless-so l _ _ (asking-alone l (m .entered) _ _) (next-so l (m .svids) (l .candidate))) (length out)
-refusal-state startOver l m out = step-so l _ (unless-so l _ _ (asking-alone l (m .entered) _ _) tt) (length out)
-refusal-state drop l m out = step-so l _ (unless-so l _ _ (owner-alone l _ _) tt) (length out)
-refusal-state (enter svid position) l m out =
-    step-so l _
-    (unless-so l _ _ (owner-alone l _ _)
-    (unless-so l _ _ (alone (isAbsent (l .candidate)) 0 13 none-alone thirteen-alone) (unless-so l _ _ (enter-alone _ (m .heldModes) (m .entered) svid position) tt)))
-    (length out)
-refusal-state (exit svid position) l m out =
-    step-so l _ (unless-so l _ _ (owner-alone l _ _) (unless-so l _ _ (exit-alone _ (m .heldModes) (m .entered) svid position) tt)) (length out)
-refusal-state (timer first last) l m out = step-so l _ (timer-so l first last (l .wait)) (length out)
-refusal-state protocolError l m out = step-so l _ (error-so l (l .wait)) (length out)
+  outcome-so : (m : Memory) (n : ℕ) → leftBy n (message bytes) l ≡ l → So (hear l m (outcome n x) .step)
+  unfolding outcome hear
+  outcome-so m n e = go (eqb n 0)
+    where
+      go : (t : Bool) → So (hear l m (cond t (accepted x) (refused n)) .step)
+      go true = accepted-so m
+      go false = λ z. ap (refusedBy n) (sym e)
+
+  message-so : (m : Memory) → So (heard l m (readOutcome bytes) .step)
+  unfolding heard readOutcome
+  message-so m =
+      result-either (shortRuns (length (m .run)) (length (m .heldRun))) _ _ (λ e n. refl) (λ e. outcome-so m (readRefusal bytes) read-left)
+
+-- any call
+module _ (l : Laptop) (m : Memory) (out : List ℕ) where
+  decided-so : (c : Call) (d : Decision) → effectOf c l m out .step ≡ stepOf l d (length out) → bringsPage c ≡ false → Alone l d →
+      Without 8 (lines c l m out) → Without 14 (lines c l m out) → RefusedAs c l (effectOf c l m out .step)
+  decided-so c d e p f eight fourteen n =
+      let left = alone-left c l (effectOf c l m out .step .refusal) p (never-without 8 c l m out (λ z. omega arith) eight)
+      (never-without 14 c l m out (λ z. omega arith) fourteen) in
+      subst (λ (s : Step). (s .refusal ≡ 0 → ⊥) → s ≡ refusedBy (s .refusal) l) (sym e) (step-alone l d f (length out)) n ∙
+      ap (refusedBy (effectOf c l m out .step .refusal)) (sym left)
+
+  call-so : (c : Call) → RefusedAs c l (effectOf c l m out .step)
+  unfolding decideNext decideStartOver decideDrop decideEnter decideExit
+  call-so (message bytes) = message-so l bytes m
+  call-so next = decided-so next _ refl refl (unless-alone l _ _ (next-alone l (m .svids) (l .candidate))) (omega arith) (omega arith)
+  call-so startOver = decided-so startOver _ refl refl (unless-alone l _ _ tt) (omega arith) (omega arith)
+  call-so drop = decided-so drop _ refl refl (unless-alone l _ _ tt) (omega arith) (omega arith)
+  call-so (enter svid position) =
+      decided-so (enter svid position) _ refl refl (unless-alone l _ _ (unless-alone l _ _ (unless-alone l _ _ tt))) (omega arith) (omega arith)
+  call-so (exit svid position) = decided-so (exit svid position) _ refl refl (unless-alone l _ _ (unless-alone l _ _ tt)) (omega arith) (omega arith)
+  call-so (timer first last) = decided-so (timer first last) _ refl refl (timer-alone l first last (l .wait)) (omega arith) (omega arith)
+  call-so protocolError = decided-so protocolError _ refl refl (error-alone l (l .wait)) (omega arith) (omega arith)
+
+pub refusal-state : (c : Call) (l : Laptop) (m : Memory) (out : List ℕ) → RefusedAs c l (effectOf c l m out .step)
+refusal-state c l m out = call-so l m out c

@@ -1,5 +1,7 @@
 -- The laptop as a whole: every call, what is held, what is well-formed.
-pub mod Done
+pub mod CatalogueGiven
+pub mod Effects
+pub mod Given
 pub mod Holding
 pub mod Refusing
 pub mod WellFormed

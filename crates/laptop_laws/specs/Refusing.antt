@@ -1,23 +1,40 @@
 -- What a refusal does to the laptop's state (01, "Refusal numbers").
 use mathlib.Core.Path.{_≡_}
-use Prim.Native.Nat.{ℕ, _≤_}
+use mathlib.Core.Bool.{Bool, false, cond, _&&_, _||_}
+use Prim.Native.Nat.{ℕ}
+use lib.Dec.{eqb}
+use Rattle.messages.specs.Layout.{ack}
+use Rattle.messages.specs.Reading.{messageIn}
+use Rattle.messages.specs.Requests.{svidsCommand}
+use Rattle.hearing.specs.Hearing.{isIdle}
 use Rattle.laptop.specs.Calls.{refusedBy}
-use Rattle.laptop.specs.State.{dropped, counted}
-use Rattle.laptop.specs.declared.Candidate.the-variants.{Open}
+use Rattle.laptop.specs.State.{isOpen, dropped, counted}
 use Rattle.laptop.specs.declared.Laptop.{Laptop}
 use Rattle.laptop.specs.declared.Step.{Step}
-use Rattle.laptop.specs.declared.Wait.the-variants.{Nothing}
+use Rattle.laptop_laws.specs.Effects.{Call, message, next, startOver, drop, enter, exit, timer, protocolError}
 
--- a number of the table that leaves the state alone
-abbrev pub LeavesAlone : ℕ → Type 0
-LeavesAlone number = (number ≤ 13) × (number ≡ 8 → ⊥)
+-- a page comes: a message that is an SVIDs ACK
+abbrev pub bringsPage : Call → Bool
+bringsPage (message bytes) = eqb (messageIn bytes .head .command) svidsCommand && eqb (messageIn bytes .head .kind) ack
+bringsPage next = false
+bringsPage startOver = false
+bringsPage drop = false
+bringsPage (enter svid position) = false
+bringsPage (exit svid position) = false
+bringsPage (timer first last) = false
+bringsPage protocolError = false
 
--- a call's answer: nothing is refused; a refusal sends nothing and leaves the state alone; 6 drops the candidate when a page comes while the list is
--- open and nothing is awaited; 8 and 14 drop the candidate and end the wait, and a page so refused stays counted
-pub data RefusedAs (l : Laptop) (s : Step) : Type 0 where
-  taken : s .refusal ≡ 0 → RefusedAs l s
-  leaves : (number : ℕ) → LeavesAlone number → s ≡ refusedBy number l → RefusedAs l s
-  drops : l .wait ≡ Nothing → l .candidate ≡ Open → s ≡ refusedBy 6 (dropped l) → RefusedAs l s
-  voids : s ≡ refusedBy 8 (dropped l) → RefusedAs l s
-  voids-page : s ≡ refusedBy 8 (dropped (counted l)) → RefusedAs l s
-  two-hundred : s ≡ refusedBy 14 (dropped (counted l)) → RefusedAs l s
+-- it comes late: while the list is open and nothing is awaited
+abbrev pub bringsLatePage : Call → Laptop → Bool
+bringsLatePage c l = isIdle (l .wait) && (isOpen (l .candidate) && bringsPage c)
+
+-- the state that a refusal leaves: 8 and 14 drop the candidate and end the wait, and a page so refused stays counted; 6 drops the candidate when a page
+-- comes late; else it is left alone
+abbrev pub leftBy : ℕ → Call → Laptop → Laptop
+leftBy number c l =
+    cond (eqb number 8 || eqb number 14) (dropped (cond (bringsPage c) (counted l) l))
+    (cond (eqb number 6 && bringsLatePage c l) (dropped l) l)
+
+-- a call's answer: where it is refused, nothing is sent, policy is told nothing, and that state is left
+abbrev pub RefusedAs : Call → Laptop → Step → Type 0
+RefusedAs c l s = (s .refusal ≡ 0 → ⊥) → s ≡ refusedBy (s .refusal) (leftBy (s .refusal) c l)

@@ -5,3 +5,4 @@ pub mod Padded
 pub mod Parts
 pub mod Rows
 pub mod Stores
+pub mod Tight

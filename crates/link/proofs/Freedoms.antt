@@ -10,14 +10,14 @@ use Rattle.pages.specs.Lists.{isIn, soundList}
 use Rattle.pages.specs.Pages.{paired, halves, values, page, isLast, readOff}
 use Rattle.taking.specs.Taking.{sameList, isRepeat, isFull, isEnding, allNew, adds, endingVerdict, verdict}
 use Rattle.dock.specs.Data.{goodIdentity, loaded}
-use Rattle.dock.specs.Dock.{stepOf, bufferOf, asking, sending, decideRequest, decideMessage, givePage, giveIdentity, giveModes, giveOther, bare, decidePolicy, decideAnswer, moved, decideSent, decideFailed}
-use Rattle.gathering.specs.Gathering.{hearIdentity, unlessLast, takeAs, takePage, hearSvids}
-use Rattle.hearing.specs.Answers.{storeModes, hearModes, turnedDown, hearMode, isWhole, isMode, copied}
+use Rattle.dock.specs.Dock.{stepOf, bufferOf, asking, sending, decideRequest, decideMessage, givePage, giveIdentity, giveModes, giveOther, bare, decidePolicy, decidePolicyAnswer, moved, decideSent, decideFailed}
+use Rattle.gathering.specs.Gathering.{hearIdentity, unlessLast, takeAs, takePage, noneGathered, hearSvids}
+use Rattle.hearing.specs.Answers.{storeModes, hearModes, declinedAs, hearMode, isWhole, isMode, copied}
 use Rattle.laptop.specs.Calls.{unless, shortRuns}
 use Rattle.laptop.specs.Calls.{stepOf as Laptop·stepOf}
 use Rattle.laptop.specs.Calls.{bufferOf as Laptop·bufferOf}
 use Rattle.laptop.specs.Catalogue.{modesNumber, modesAt, entriesFrom}
-use Rattle.hearing.specs.Hearing.{isLatePage, hearUnawaited, settledStep, settledList, settledRun, hearAnswer, hear, heard}
+use Rattle.hearing.specs.Hearing.{isLatePage, hearUnawaited, stepIfWhole, listIfWhole, runIfWhole, publishing, hearAnswer, hear, heard}
 use Rattle.owner.specs.Owner.{ownerRefusal, anyEntered, askingRefusal, asksNext, decideNext, decideStartOver, decideDrop, hasMode, enterRefusal, decideEnter, exitRefusal, decideExit}
 use Rattle.laptop.specs.State.{counted}
 use Rattle.timers.specs.Timers.{over, decideTimer, decideError}
@@ -48,12 +48,12 @@ unfolding
     losses confirmations lateAnswers policies replacements endings modeRuns needs runs dockWith start numbersOf held seen story ran refusals
     refusing sameLists differingFrom holdsWhole heldRunOf withMarks modeStory modesRan neededAlong neededIn neededAfter otherDock neededOther newAlong newAnswersIn isNew newIn after listAnswers sameMessage
     isListing isTooMany isAnswer isLate withAnswer withMessage beginsAnew receivedBy received placeOf named isEntered markedBy marksAfter hasMode
-    enterRefusal decideEnter exitRefusal decideExit turnedDown hearMode bytesOfObject objectsOf bytesOf headOf headerOf messageBytes readRefusal messageIn
+    enterRefusal decideEnter exitRefusal decideExit declinedAs hearMode bytesOfObject objectsOf bytesOf headOf headerOf messageBytes readRefusal messageIn
     outcome readOutcome rowOf countsOf fits shape wellShaped writeRefusal written isIn soundList paired halves values page isLast readOff sameList isRepeat
     isFull isEnding allNew adds endingVerdict verdict goodIdentity loaded stepOf bufferOf asking sending decideRequest decideMessage givePage giveIdentity
-    giveModes giveOther bare decidePolicy decideAnswer moved decideSent decideFailed hearIdentity unlessLast takeAs takePage hearSvids storeModes hearModes
-    isWhole isMode copied unless shortRuns Laptop·stepOf Laptop·bufferOf modesNumber modesAt entriesFrom isLatePage hearUnawaited settledStep settledList
-    settledRun hearAnswer hear heard ownerRefusal anyEntered askingRefusal asksNext decideNext decideStartOver decideDrop over decideTimer decideError
+    giveModes giveOther bare decidePolicy decidePolicyAnswer moved decideSent decideFailed hearIdentity unlessLast takeAs takePage noneGathered hearSvids storeModes hearModes
+    isWhole isMode copied unless shortRuns Laptop·stepOf Laptop·bufferOf modesNumber modesAt entriesFrom isLatePage hearUnawaited stepIfWhole listIfWhole
+    runIfWhole publishing hearAnswer hear heard ownerRefusal anyEntered askingRefusal asksNext decideNext decideStartOver decideDrop over decideTimer decideError
     counted svidBytes modeBytes modesBytes entryBytes entriesBytes catalogueBytes heldBytes wayAfter called handedOver isFair brought isUnsure opens step
     run
 runs-hold = refl

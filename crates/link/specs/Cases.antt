@@ -16,7 +16,7 @@ use Rattle.laptop.specs.declared.Held.{Held}
 use Rattle.laptop.specs.declared.Held.the-variants.{Catalogue as Held·Catalogue}
 use Rattle.laptop.specs.declared.Held.the-variants.{Nothing as Held·Nothing}
 use Rattle.laptop.specs.declared.Laptop.{Laptop}
-use Rattle.laptop_laws.specs.Done.{Call, message, next, Done}
+use Rattle.laptop_laws.specs.Effects.{Call, message, next, Effect}
 use Rattle.laptop_laws.specs.Holding.{holding}
 use Rattle.catalogue.specs.Bytes.{heldBytes}
 use Rattle.link.specs.Demand.{heldIn}
@@ -74,7 +74,7 @@ emptyMemory =
 abbrev pub fresh : Standing
 fresh = record { laptop = freshLaptop; memory = emptyMemory; refusal = 0 }
 
-abbrev pub by : Done → Standing
+abbrev pub by : Effect → Standing
 by d = record { laptop = d .step .laptop; memory = d .after; refusal = d .step .refusal }
 
 unfoldable pub after : List Call → Standing → Standing
@@ -165,7 +165,7 @@ abbrev pub heldNumber : Held → List ℕ
 heldNumber Held·Nothing = []
 heldNumber (Held·Catalogue size) = size .count ∷ []
 
-unfoldable pub line : Done → List (List ℕ)
+unfoldable pub line : Effect → List (List ℕ)
 line d =
     (d .step .refusal ∷ []) ∷ objectsOf (take (d .step .length) (d .buffer)) ∷ (d .step .laptop .pages ∷ []) ∷ heldNumber (d .step .laptop .held) ∷ []
 

@@ -22,7 +22,7 @@ use Rattle.hearing.specs.Hearing.{isLatePage}
 use Rattle.owner.specs.Owner.{isAbsent, requestMessage}
 use Rattle.laptop.specs.State.{gatheredList, identityRequest}
 use Rattle.laptop.specs.declared.Wait.the-variants.{Nothing, Answer}
-use Rattle.laptop_laws.specs.Done.{startOver, drop, message, Kept}
+use Rattle.laptop_laws.specs.Effects.{startOver, drop, message, Kept}
 use Rattle.laptop_laws.specs.Holding.{Holding, holding}
 use Rattle.laptop_laws.specs.WellFormed.{awaitsIdentity, WellFormed}
 use Rattle.link.specs.Ends.{laptopDoes, dockHears}
@@ -35,7 +35,7 @@ use Rattle.link.specs.Needed.{needed, pagesIn, isListing, onWay, arrivin
 pub record Meets (modesOf : ℕ → List ℕ) (d : Dock) : Type 0 where
   pub sound : Sound d
   pub svids-fit : Below (2 ^ 16) (listed d)
-  pub identity-fits : Below (2 ^ 32) (take (d .objects) (d .identity))
+  pub identity-fits : Below (2 ^ 32) (take (d .extent) (d .identity))
   pub modes-fit : (svid : ℕ) → Below (2 ^ 32) (modesOf svid)
 
 -- a Discover Identity has just gone out from a well-formed laptop, and nothing else is on its way; the dock is at rest, at any page
@@ -63,7 +63,7 @@ entriesOf modesOf [] = []
 entriesOf modesOf (svid ∷ list) = record { svid = svid; modes = modesOf svid } ∷ entriesOf modesOf list
 
 abbrev pub whole : (ℕ → List ℕ) → Dock → Catalogue
-whole modesOf d = record { identity = take (d .objects) (d .identity); entries = entriesOf modesOf (listed d) }
+whole modesOf d = record { identity = take (d .extent) (d .identity); entries = entriesOf modesOf (listed d) }
 
 -- the catalogue that the laptop holds
 abbrev pub heldIn : Holding → HeldCatalogue

@@ -3,23 +3,23 @@ use Prim.Native.Nat.{ℕ}
 use mathlib.Core.List.{List}
 use Rattle.messages.specs.Reading.{readOutcome}
 use Rattle.messages.specs.declared.request.Request.{Request}
-use Rattle.dock.specs.Dock.{Decision, decideMessage, decideAnswer, decideSent, decideFailed}
+use Rattle.dock.specs.Dock.{Decision, decideMessage, decidePolicyAnswer, decideSent, decideFailed}
 use Rattle.dock.specs.declared.Dock.{Dock}
 use Rattle.dock.specs.declared.Policy.{Policy}
 use Rattle.laptop.specs.State.{Memory}
 use Rattle.laptop.specs.declared.Laptop.{Laptop}
-use Rattle.laptop_laws.specs.Done.{Call, Done, done}
+use Rattle.laptop_laws.specs.Effects.{Call, Effect, effectOf}
 
 -- the laptop with a message, an owner's call, a timer or the protocol error
-abbrev pub laptopDoes : Call → Laptop → Memory → List ℕ → Done
-laptopDoes c l m out = done c l m out
+abbrev pub laptopDoes : Call → Laptop → Memory → List ℕ → Effect
+laptopDoes c l m out = effectOf c l m out
 
 -- the dock with a message's bytes, with policy's answer, and with "sent" and "failed"
 abbrev pub dockHears : Dock → List ℕ → Decision
 dockHears d bytes = decideMessage d (readOutcome bytes)
 
 abbrev pub dockAnswers : Dock → Policy → Request → List ℕ → Decision
-dockAnswers d policy r objects = decideAnswer d (d .standing) policy r objects
+dockAnswers d policy r objects = decidePolicyAnswer d (d .standing) policy r objects
 
 abbrev pub dockSent : Dock → Decision
 dockSent d = decideSent d (d .standing)

@@ -16,7 +16,7 @@ use Rattle.owner.specs.Owner.{discover}
 use Rattle.laptop.specs.Catalogue.{modesEach}
 use Rattle.laptop.specs.State.{identityRequest}
 use Rattle.laptop.specs.declared.Wait.the-variants.{Nothing, Answer}
-use Rattle.laptop_laws.specs.Done.{next, drop, protocolError}
+use Rattle.laptop_laws.specs.Effects.{next, drop, protocolError}
 use Rattle.link.specs.Demand.{whole, heldWords, Holds}
 use Rattle.link.specs.Joined.{System, Event, calls, reach, answer, arrive, sent}
 use Rattle.link.specs.Link.{step, run}
@@ -24,7 +24,7 @@ use Rattle.link.specs.Needed.{identityAnswer, modesAnswer, hasCome, need
 
 -- THE LOSS-FREE RUN. The dock can give all that is asked: 3 to 6 identity objects, and 1 to 6 modes for each listed SVID
 pub record HasAll (modesOf : ℕ → List ℕ) (d : Dock) : Type 0 where
-  pub identity-good : goodIdentity (d .objects) ≡ true
+  pub identity-good : goodIdentity (d .extent) ≡ true
   pub identity-there : length (d .identity) ≡ 6
   pub some-modes : (i : ℕ) → i < length (listed d) → 1 ≤ length (modesOf (getD (listed d) i 0))
   pub few-modes : (i : ℕ) → i < length (listed d) → length (modesOf (getD (listed d) i 0)) ≤ modesEach
@@ -58,14 +58,14 @@ LossFree modesOf s out =
     run modesOf (times (inAll (length (listed (s .dock)))) (exchange out)) s .laptop .pages ≡ length (listed (s .dock)) / perPage + 1)
 
 -- NO DEAD END. The wait is ended, what still arrives is heard, and the candidate is dropped
-abbrev pub settles : List Event
-settles = calls protocolError [] ∷ arrive ∷ calls drop [] ∷ []
+abbrev pub toRest : List Event
+toRest = calls protocolError [] ∷ arrive ∷ calls drop [] ∷ []
 
 -- whatever has happened, a wait can be ended, and then the dock's whole catalogue gathered
 abbrev pub NoDeadEnd : (ℕ → List ℕ) → Dock → System → List ℕ → Type 0
 NoDeadEnd modesOf d s out =
     (step modesOf (calls protocolError []) s .laptop .wait ≡ Nothing) ×
-    Holds (whole modesOf d) (run modesOf (settles ++ times (inAll (length (listed d))) (exchange out)) s)
+    Holds (whole modesOf d) (run modesOf (toRest ++ times (inAll (length (listed d))) (exchange out)) s)
 
 -- NEXT ASKS FOR WHAT IS NEEDED, whatever has been lost: Identity where nothing has come or nothing is missing, SVIDs while an answer to SVIDs is missing, and
 -- then Modes of a listed SVID whose modes are

@@ -10,11 +10,11 @@ use Rattle.dock.specs.Data.{loaded}
 use Rattle.dock.specs.declared.Dock.{Dock}
 use Rattle.dock.specs.declared.Policy.the-variants.{Give, Nak, Busy}
 use Rattle.laptop.specs.State.{memory, freshLaptop, withPages}
-use Rattle.laptop_laws.specs.Done.{Call, message, next, startOver, drop, enter, exit}
+use Rattle.laptop_laws.specs.Effects.{Call, message, next, startOver, drop, enter, exit}
 use Rattle.catalogue.specs.Bytes.{catalogueBytes}
 use Rattle.link.specs.Cases.{Case, case, Standing, oldBytes, upFrom, buffer, exchange}
 use Rattle.link.specs.Demand.{whole}
-use Rattle.link.specs.Exchanges.{times, settles}
+use Rattle.link.specs.Exchanges.{times, toRest}
 use Rattle.link.specs.Joined.{clear, gone, System, Event, calls, loseRequest, reach, answer, loseAnswer, arrive, sent, failed}
 use Rattle.link.specs.Link.{step, run}
 use Rattle.link.specs.Needed.{identityAnswer, pageAnswer, needed, withAnswer, received, receivedBy, bringsNew, inAll}
@@ -248,9 +248,9 @@ replacements =
     case (holdsWhole 72 (times 80 (exchange sent))) ((1 ∷ []) ∷ []) ∷
     -- no dead end: a page that is confirmed has still to arrive and a newer request is out; the dock is sending and hears nothing; a mode was asked for
     case
-    (holdsWhole 13 (opensList ++ answeredWith Give ++ sent ∷ responseTimer ∷ calls next buffer ∷ settles ++ times 16 (exchange sent)) ++
-    holdsWhole 2 (takesPage ++ answeredWith Give ++ arrive ∷ settles ++ times 4 (exchange sent)) ++
-    holdsWhole 0 (givenTo (enter 1 1) ++ settles ++ times 2 (exchange sent)))
+    (holdsWhole 13 (opensList ++ answeredWith Give ++ sent ∷ responseTimer ∷ calls next buffer ∷ toRest ++ times 16 (exchange sent)) ++
+    holdsWhole 2 (takesPage ++ answeredWith Give ++ arrive ∷ toRest ++ times 4 (exchange sent)) ++
+    holdsWhole 0 (givenTo (enter 1 1) ++ toRest ++ times 2 (exchange sent)))
     ((1 ∷ []) ∷ (1 ∷ []) ∷ (1 ∷ []) ∷ []) ∷
     -- "Lent runs have 432 words or more and come back as left": words beyond an SVID's modes stay
     case (heldRunOf (run modesOf (times 4 (exchange sent)) (beside lentMore 2)))

@@ -6,7 +6,7 @@ use Rattle.dock.specs.declared.Dock.{Dock}
 use Rattle.dock.specs.declared.Policy.{Policy}
 use Rattle.laptop.specs.State.{Memory}
 use Rattle.laptop.specs.declared.Laptop.{Laptop}
-use Rattle.laptop_laws.specs.Done.{Call}
+use Rattle.laptop_laws.specs.Effects.{Call}
 
 -- a request on its way to the dock, as bytes: there is at most one, since calls are refused while an answer is awaited, and a request not yet
 -- at the dock when its wait ends is lost

@@ -15,15 +15,15 @@ use Rattle.dock.specs.declared.Policy.the-variants.{Give, Nak, Busy}
 use Rattle.dock.specs.declared.Standing.{Standing}
 use Rattle.dock.specs.declared.Standing.the-variants.{Ready, Asking, Sending}
 use Rattle.laptop.specs.Calls.{isAwaiting}
-use Rattle.hearing.specs.Hearing.{isOpen}
+use Rattle.laptop.specs.State.{isOpen}
 use Rattle.laptop.specs.declared.Laptop.{Laptop}
-use Rattle.laptop_laws.specs.Done.{Call, message, next, startOver, drop, enter, exit, timer, protocolError, Done}
+use Rattle.laptop_laws.specs.Effects.{Call, message, next, startOver, drop, enter, exit, timer, protocolError, Effect}
 use Rattle.laptop_laws.specs.WellFormed.{awaitsIdentity}
 use Rattle.link.specs.Ends.{laptopDoes, dockHears, dockAnswers, dockSent, dockFailed}
 use Rattle.link.specs.Joined.{Way, clear, request, Fate, gone, coming, confirmed, came, System, Event, calls, loseRequest, reach, answer, loseAnswer, arrive, sent, failed}
 
 -- a request goes out with a call that sends it; one not yet at the dock when its wait ends is lost
-unfoldable pub wayAfter : Done → Way → Way
+unfoldable pub wayAfter : Effect → Way → Way
 wayAfter d way =
     cond (isAwaiting (d .step .laptop .wait)) (cond (ltb 0 (d .step .length)) (request (take (d .step .length) (d .buffer))) way) clear
 
@@ -38,7 +38,7 @@ isMessage (exit svid position) = false
 isMessage (timer first last) = false
 isMessage protocolError = false
 
-abbrev pub afterCall : Done → System → System
+abbrev pub afterCall : Effect → System → System
 afterCall d s =
     record {
       laptop = d .step .laptop;
@@ -128,7 +128,7 @@ abbrev pub withFate : Fate → ℕ → System → System
 withFate fate lost s =
     record { laptop = s .laptop; memory = s .memory; way = s .way; fate = fate; dock = s .dock; lost = lost }
 
-abbrev pub arrivedWith : List ℕ → System → Done
+abbrev pub arrivedWith : List ℕ → System → Effect
 arrivedWith bytes s = laptopDoes (message bytes) (s .laptop) (s .memory) []
 
 -- an answer that is not confirmed: the dock may still hear of it while it is sending; if it has heard "failed", the confirmation is lost

@@ -21,7 +21,7 @@ use Rattle.owner.specs.Owner.{discover}
 use Rattle.laptop.specs.Calls.{isAwaiting}
 use Rattle.laptop.specs.State.{identityRequest}
 use Rattle.laptop.specs.declared.Wait.{Wait}
-use Rattle.laptop_laws.specs.Done.{Call, message, next, startOver, drop, enter, exit, timer, protocolError, Done}
+use Rattle.laptop_laws.specs.Effects.{Call, message, next, startOver, drop, enter, exit, timer, protocolError, Effect}
 use Rattle.laptop_laws.specs.WellFormed.{awaitsIdentity}
 use Rattle.link.specs.Ends.{laptopDoes}
 use Rattle.link.specs.Joined.{Fate, gone, coming, confirmed, came, System, Event, calls, loseRequest, reach, answer, loseAnswer, arrive, sent, failed}
@@ -29,7 +29,7 @@ use Rattle.link.specs.Link.{step}
 
 -- the ACK to Identity
 abbrev pub identityAnswer : Dock → Message
-identityAnswer d = reply identityRequest ack (take (d .objects) (d .identity))
+identityAnswer d = reply identityRequest ack (take (d .extent) (d .identity))
 
 -- the ACK to SVIDs with page p, and the first k of them
 abbrev pub pageAnswer : List ℕ → ℕ → Message
@@ -121,11 +121,11 @@ withArrival w list none got = got
 withArrival w list (some bytes) got = withMessage w list (readOutcome bytes) got
 
 -- Identity goes out with a call: a message is sent, and Identity is awaited
-abbrev pub identityOut : Done → Bool
+abbrev pub identityOut : Effect → Bool
 identityOut d = ltb 0 (d .step .length) && awaitsIdentity (d .step .laptop .wait)
 
 -- a call after which nothing has come: drop that is accepted, or one with which Identity goes out
-unfoldable pub beginsAnew : Call → Done → Bool
+unfoldable pub beginsAnew : Call → Effect → Bool
 beginsAnew (message bytes) d = false
 beginsAnew next d = identityOut d
 beginsAnew startOver d = identityOut d

@@ -12,7 +12,7 @@ use Rattle.dock.specs.Data.{listed}
 use Rattle.dock.specs.Dock.{Decision, stepOf, bufferOf}
 use Rattle.dock.specs.declared.Policy.the-variants.{Give, Nak, Busy}
 use Rattle.dock.specs.declared.Standing.the-variants.{Asking, Sending}
-use Rattle.laptop_laws.specs.Done.{Call, message}
+use Rattle.laptop_laws.specs.Effects.{Call, message}
 use Rattle.link.specs.Ends.{laptopDoes, dockHears, dockAnswers, dockSent, dockFailed}
 use Rattle.link.specs.Joined.{clear, request, Fate, gone, coming, confirmed, came, System, calls, loseRequest, reach, answer, loseAnswer, arrive, sent, failed}
 use Rattle.link.specs.Link.{isMessage, step}

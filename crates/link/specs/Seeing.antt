@@ -16,7 +16,7 @@ use Rattle.laptop.specs.declared.Candidate.{Candidate}
 use Rattle.laptop.specs.declared.Candidate.the-variants.{Absent, Open, Done}
 use Rattle.laptop.specs.declared.Wait.{Wait}
 use Rattle.laptop.specs.declared.Wait.the-variants.{Nothing, Answer}
-use Rattle.laptop_laws.specs.Done.{Call, next, timer, protocolError}
+use Rattle.laptop_laws.specs.Effects.{Call, next, timer, protocolError}
 use Rattle.catalogue.specs.Bytes.{heldCatalogue, heldBytes}
 use Rattle.link.specs.Cases.{Case, Standing, fresh, after, gathersOld, upFrom, buffer, exchange}
 use Rattle.link.specs.Demand.{refusalOf}

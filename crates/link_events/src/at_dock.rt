@@ -144,7 +144,7 @@ fn send(far_end: FarEnd, request: Request, reply: Reply) -> FarEnd {
     let policy = reply.policy;
     let objects = reply.objects;
     let mut bytes = [0u8; ANSWER];
-    let step = answering::answer(
+    let step = answering::policy_answer(
         dock,
         policy,
         request,

@@ -1,6 +1,7 @@
 // The events, and reading one from standard input.
 use driving::calls::take_call;
 use events::Call;
+use streams::finish::Turn;
 use streams::input::Byte;
 use streams::input::read_byte;
 
@@ -47,21 +48,16 @@ pub enum Event {
     Failed,
 }
 
-// The event that stood next, or why there is none. A new stream is followed by what it begins with, which is bad where it is cut or breaks a limit.
+// The event that stood next, or the turn without one.
 pub enum Taken {
     Whole(Event),
-    NewStream,
-    BadDockData,
-    Unknown,
-    Cut,
-    Nothing,
+    Without(Turn),
 }
 
 fn take_laptop_call(kind: u8) -> Taken {
     match take_call(kind) {
         driving::calls::Taken::Whole(call) => Taken::Whole(Event::Call(call)),
-        driving::calls::Taken::Unknown => Taken::Unknown,
-        driving::calls::Taken::Cut => Taken::Cut,
+        driving::calls::Taken::Without(turn) => Taken::Without(turn),
     }
 }
 
@@ -81,14 +77,14 @@ fn event_of(kind: u8) -> Event {
 
 pub fn take_event() -> Taken {
     let Byte::Read(kind) = read_byte() else {
-        return Taken::Nothing;
+        return Taken::Without(Turn::Ended);
     };
     match kind {
         NEXT..=DROP => take_laptop_call(kind),
         TIMER => Taken::Whole(Event::Timer),
         PROTOCOL_ERROR..=EXIT => take_laptop_call(kind),
         REQUEST_REACHES..=FAILED => Taken::Whole(event_of(kind)),
-        NEW_STREAM => Taken::NewStream,
-        _ => Taken::Unknown,
+        NEW_STREAM => Taken::Without(Turn::NewStream),
+        _ => Taken::Without(Turn::Unknown),
     }
 }

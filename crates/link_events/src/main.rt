@@ -23,74 +23,61 @@ use streams::finish::Turn;
 use streams::finish::print_finish;
 use system::take;
 
-// What stood where the next event was to be, and how many events of all streams were answered before.
-struct Stream {
-    taken: Taken,
-    count: u64,
-}
-
 // Answers the events of a stream, after so many events of the streams before it.
-fn answer_events(stream: u64, before: u64, begun: State) -> Stream {
+fn answer_events(stream: u64, before: u64, begun: State) -> Finish {
     let mut state = begun;
-    let mut count = before;
+    let mut answered = before;
     let mut number: u64 = 0;
-    while count < MOST {
-        let taken = take_event();
-        let Taken::Whole(event) = taken else {
-            return Stream { taken, count };
-        };
-        state = take(state, event);
-        count += 1;
-        number += 1;
-        print_event(stream, number, state);
+    while answered < MOST {
+        match take_event() {
+            Taken::Without(turn) => return Finish { turn, answered },
+            Taken::Whole(event) => {
+                state = take(state, event);
+                answered += 1;
+                number += 1;
+                print_event(stream, number, state);
+            }
+        }
     }
-    Stream {
-        taken: Taken::Nothing,
-        count,
+    Finish {
+        turn: Turn::Ended,
+        answered,
     }
 }
 
-// Answers a stream from its beginning, after so many events of the streams before it.
-fn answer_stream(stream: u64, before: u64) -> Stream {
+// Answers a stream from what it begins with, which is bad where it is cut or breaks a limit, after so many events of the streams before it.
+fn answer_stream(stream: u64, before: u64) -> Finish {
     let start = read_start();
     if start.is_good {
         return answer_events(stream, before, begin(start));
     }
-    Stream {
-        taken: Taken::BadDockData,
-        count: before,
+    Finish {
+        turn: Turn::BadStart,
+        answered: before,
     }
 }
 
-fn answer_all() -> Stream {
-    let mut answered = answer_stream(1, 0);
+fn answer_all() -> Finish {
+    let mut finish = answer_stream(1, 0);
     let mut stream: u64 = 1;
     while stream < MOST {
-        let taken = answered.taken;
-        let Taken::NewStream = taken else {
-            return answered;
+        let turn = finish.turn;
+        let Turn::NewStream = turn else {
+            return finish;
         };
         stream += 1;
-        answered = answer_stream(stream, answered.count);
+        finish = answer_stream(stream, finish.answered);
     }
-    answered
+    finish
 }
 
-fn finish_of(taken: Taken, answered: u64) -> Finish {
-    let turn = match taken {
-        Taken::Unknown => Turn::Unknown,
-        Taken::Cut => Turn::Cut,
-        _ => Turn::Ended,
-    };
-    Finish { turn, answered }
-}
-
-fn print_last(taken: Taken, answered: u64) {
-    if let Taken::BadDockData = taken {
+fn print_last(finish: Finish) {
+    let turn = finish.turn;
+    if let Turn::BadStart = turn {
         io::write_all(STDOUT_FILENO, b"bad dock data\n");
         return;
     }
-    print_finish(finish_of(taken, answered), b" events\n");
+    print_finish(finish, b" events\n");
 }
 
 fn main() {
@@ -98,7 +85,5 @@ fn main() {
         STDOUT_FILENO,
         b"stream event permitted refusal pages candidate held catalogue page lost\n",
     );
-    let answered = answer_all();
-    let taken = answered.taken;
-    print_last(taken, answered.count);
+    print_last(answer_all());
 }

@@ -8,7 +8,7 @@ use lib.ListN.{length, getD, take, set, replicate}
 use lib.Seq.{take-suc, set-at, length-take-le, append-snoc, take-all}
 use Rattle.laws.specs.Padded.{padded}
 use Rattle.laws.proofs.Padded.{padded-at}
-use Rattle.dock.specs.Data.{filled}
+use Rattle.dock.specs.Data.{inArray}
 
 -- the first i of a list in an array of 72
 abbrev pub filledTo : List ℕ → ℕ → List ℕ
@@ -25,7 +25,7 @@ fill-step l svids i most h e =
     sym (append-snoc (take i l) (getD l i 0) (replicate (72 - (i + 1)) 0)) ∙
     ap (λ (s : List ℕ). s ++ replicate (72 - (i + 1)) 0) (sym taken)
 
-pub fill-done : (l svids : List ℕ) (i : ℕ) → length l ≤ i → i ≤ length l → svids ≡ filledTo l i → svids ≡ filled l
+pub fill-done : (l svids : List ℕ) (i : ℕ) → length l ≤ i → i ≤ length l → svids ≡ filledTo l i → svids ≡ inArray l
 fill-done l svids i m n e =
     let last : i ≡ length l = omega arith in
     e ∙ ap₂ (λ (t : List ℕ) (k : ℕ). t ++ replicate (72 - k) 0) (take-all i l m) last

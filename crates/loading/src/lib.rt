@@ -36,7 +36,7 @@ fn dock_of(identity: &[u32], svids: &[u16]) -> Dock
 {
     Dock {
         identity: objects_from(identity),
-        objects: identity.len() as u8,
+        extent: identity.len() as u8,
         svids: svids_from(svids),
         count: svids.len() as u8,
         page: 0,

@@ -1,14 +1,14 @@
 // Lists of SVIDs and of objects, and their place in the dock's arrays.
 ghost use mathlib.Core.Path.{_≡_};
 ghost use Prim.Native.Nat.{_≤_};
-ghost use lib.ListN.{length, take, getD};
+ghost use lib.ListN.{length, getD};
 ghost use Rattle.laws.specs.Padded.{padded};
-ghost use Rattle.dock.specs.Data.{filled};
+ghost use Rattle.dock.specs.Data.{inArray};
 
 // The list in an array of 72, with zeros behind it.
 pub(crate) fn svids_from(list: &[u16]) -> [u16; 72]
     requires { ⌜ length (now list) ≤ 72 ⌝ }
-    ensures { λ r. ⌜ r ≡ filled (now (list .entry)) ⌝ }
+    ensures { λ r. ⌜ r ≡ inArray (now (list .entry)) ⌝ }
 {
     let mut svids = [0u16; 72];
     let mut i = 0;

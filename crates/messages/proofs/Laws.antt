@@ -16,8 +16,8 @@ use Rattle.messages.specs.Layout.{headOf, Message, Representable, messag
 use Rattle.messages.specs.Table.{rowOf, countsOf, shape, allowed, firstHead}
 use Rattle.messages.specs.Reading.{headerIn, readLines, readRefusal, messageIn, Outcome, accepted, refused, outcome, readOutcome, shown}
 use Rattle.messages.specs.Writing.{wellShaped, writeRefusal, written, Written}
-use Rattle.messages.specs.declared.Answer.the-variants.{Refused}
-use Rattle.messages.specs.declared.Answer.the-variants.{Message as Answer·Message}
+use Rattle.messages.specs.declared.ReadAs.the-variants.{Refused}
+use Rattle.messages.specs.declared.ReadAs.the-variants.{Message as ReadAs·Message}
 use Rattle.messages.specs.declared.Head.{Head}
 use Rattle.messages.specs.declared.Reading.{Reading}
 use Rattle.messages.proofs.Refusals.{read-refused, outcome-refused}
@@ -117,18 +117,18 @@ write-only m out number number′ after after′ w w′ =
     (w .number-is ∙ sym (w′ .number-is), w .buffer-is ∙ sym (w′ .buffer-is))
 
 -- for whoever takes the answer apart: each case of it is one of the outcome
-pub answer-refused : (o : Outcome) (r : Reading) (number : ℕ) → r ≡ shown o → r .answer ≡ Refused number → o ≡ refused number
+pub shown-refused : (o : Outcome) (r : Reading) (number : ℕ) → r ≡ shown o → r .outcome ≡ Refused number → o ≡ refused number
 unfolding shown
-answer-refused (accepted m) r number e a = absurd (let o : _≡_ {A = ℕ} 0 1 = cc (ap (λ (s : Reading). s .answer) e) in omega arith)
-answer-refused (refused n) r number e a = cc (ap (λ (s : Reading). s .answer) e)
+shown-refused (accepted m) r number e a = absurd (let o : _≡_ {A = ℕ} 0 1 = cc (ap (λ (s : Reading). s .outcome) e) in omega arith)
+shown-refused (refused n) r number e a = cc (ap (λ (s : Reading). s .outcome) e)
 
-pub answer-message : (o : Outcome) (r : Reading) (h : Head) (count : ℕ) → r ≡ shown o → r .answer ≡ Answer·Message h count →
+pub shown-message : (o : Outcome) (r : Reading) (h : Head) (count : ℕ) → r ≡ shown o → r .outcome ≡ ReadAs·Message h count →
     (m : Message) × (o ≡ accepted m) × (m .head ≡ h) × (length (m .objects) ≡ count) × (padded (m .objects) ≡ r .objects)
 unfolding shown
-answer-message (accepted m) r h count e a =
-    let same : Answer·Message (m .head) (length (m .objects)) ≡ Answer·Message h count = sym (ap (λ (s : Reading). s .answer) e) ∙ a in
+shown-message (accepted m) r h count e a =
+    let same : ReadAs·Message (m .head) (length (m .objects)) ≡ ReadAs·Message h count = sym (ap (λ (s : Reading). s .outcome) e) ∙ a in
     (m, refl, cc, cc, ap (λ (s : Reading). s .objects) (sym e))
-answer-message (refused n) r h count e a = absurd (let o : _≡_ {A = ℕ} 0 1 = cc (ap (λ (s : Reading). s .answer) e) in omega arith)
+shown-message (refused n) r h count e a = absurd (let o : _≡_ {A = ℕ} 0 1 = cc (ap (λ (s : Reading). s .outcome) e) in omega arith)
 
 -- reading is refused by a number exactly when that line of the table is the first that holds; there are lines 1 to 5
 pub read-refused-by : (b : List ℕ) (k : ℕ) → (readOutcome b ≡ refused (1 + k)) ↔ (firstAt (readLines b) k ≡ true)

@@ -14,7 +14,7 @@ use Rattle.laws.proofs.Padded.{padded-at}
 use Rattle.messages.specs.Layout.{objectsOf, structured, major, reserved, headOf}
 use Rattle.messages.specs.Table.{shape}
 use Rattle.messages.specs.Reading.{wrongLength, headerLines, headerIn, objectsIn, readRefusal, messageIn, accepted, refused, outcome, readOutcome, shown}
-use Rattle.messages.specs.declared.Answer.the-variants.{Message as Answer·Message}
+use Rattle.messages.specs.declared.ReadAs.the-variants.{Message as ReadAs·Message}
 use Rattle.messages.specs.declared.Head.{Head}
 use Rattle.messages.specs.declared.Reading.{Reading}
 use Rattle.messages.proofs.Objects.{length-objects}
@@ -110,7 +110,7 @@ module _ (b : List ℕ) (l : 4 ≤ length b) (m : length b ≤ 28) (e : length b
   shown-number h = ap shown (sym (read-refused b number h number-of))
 
   pub shown-message : number ≡ 0 → (h : Head) (o : List ℕ) → h ≡ headOf header → o ≡ objectsIn b →
-      _≡_ {A = Reading} (record { answer = Answer·Message h (length b / 4 - 1); objects = o }) (shown (readOutcome b))
+      _≡_ {A = Reading} (record { outcome = ReadAs·Message h (length b / 4 - 1); objects = o }) (shown (readOutcome b))
   unfolding shown messageIn
   shown-message z h o ehead eo =
       let count : length (drop 1 (objectsOf b)) ≡ length b / 4 - 1 = length-drop 1 (objectsOf b) ∙ ap (λ (n : ℕ). n - 1) (length-objects b) in

@@ -14,7 +14,7 @@ use Rattle.laws.proofs.Lines.{and-left, and-right, none-holds}
 use Rattle.messages.specs.Layout.{bits, objectOf, bytesOfObject, objectsOf, bytesOf, structured, reserved, headOf, headerOf, Message, Representable, messageBytes, withOurVersion}
 use Rattle.messages.specs.Table.{shape}
 use Rattle.messages.specs.Reading.{headerLines, headerIn, readLines, readRefusal, messageIn, accepted, refused, outcome, readOutcome}
-use Rattle.messages.specs.Writing.{wellShaped, written}
+use Rattle.messages.specs.Writing.{wellShaped}
 use Rattle.messages.specs.declared.Head.{Head}
 use Rattle.messages.proofs.Header.{header-below, header-structured, header-major, header-reserved, head-header, header-head}
 use Rattle.messages.proofs.Objects.{objects-below, bytes-below, objects-bytes, bytes-objects, object-bytes, length-objects}

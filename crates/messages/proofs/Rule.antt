@@ -10,8 +10,15 @@ use borrow.Author.Tests.{ltb-true, ltb-false, leb-true}
 use Rattle.laws.specs.Rows.{every}
 use Rattle.laws.proofs.Rows.{at-row}
 use Rattle.laws.proofs.Lines.{and-left, and-right, or-right, hold-at}
-use Rattle.messages.specs.Table.{rowOf, countsOf, fitLines, fits, shape, oneToFive, allowed, typeRule, firstHead}
+use Rattle.messages.specs.Table.{rowOf, countsOf, fitLines, fits, shape, oneToFive, allowed, firstHead}
 use Rattle.messages.specs.declared.Head.{Head}
+use Rattle.messages.specs.declared.table.Row.{Row}
+
+-- what a row keeps for a type: a pair that is not allowed has no count of objects, a NAK or a BUSY has 1 and no message more than 7
+abbrev typeRule : ℕ → Row → ℕ → Bool
+typeRule command r kind =
+    leb 1 (countsOf r kind / 16) &&
+    leb (countsOf r kind % 16) (cond (allowed command kind) (getD (7 ∷ 7 ∷ 1 ∷ 1 ∷ []) kind 0) 0)
 
 -- the one test, over the 32 commands and their four types: each row keeps the rule, and an allowed pair has a message
 abbrev test : ℕ → ℕ → Bool

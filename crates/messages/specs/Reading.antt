@@ -9,9 +9,9 @@ use Rattle.laws.specs.Padded.{padded}
 use Rattle.messages.specs.Layout.{objectsOf, structured, major, reserved, headOf, Message}
 use Rattle.messages.specs.Table.{shape}
 use Rattle.messages.specs.declared.Reading.{Reading}
-use Rattle.messages.specs.declared.Answer.{Answer}
-use Rattle.messages.specs.declared.Answer.the-variants.{Message as Answer·Message}
-use Rattle.messages.specs.declared.Answer.the-variants.{Refused}
+use Rattle.messages.specs.declared.ReadAs.{ReadAs}
+use Rattle.messages.specs.declared.ReadAs.the-variants.{Message as ReadAs·Message}
+use Rattle.messages.specs.declared.ReadAs.the-variants.{Refused}
 
 -- bytes are not 4, 8, .. 28
 abbrev pub wrongLength : ℕ → Bool
@@ -68,10 +68,10 @@ objectsIn b = padded (drop 1 (objectsOf b))
 
 -- how the code's answer shows an outcome: 01's number, or its values
 unfoldable pub shown : Outcome → Reading
-shown (accepted m) = record { answer = Answer·Message (m .head) (length (m .objects)); objects = padded (m .objects) }
-shown (refused number) = record { answer = Refused number; objects = replicate 6 0 }
+shown (accepted m) = record { outcome = ReadAs·Message (m .head) (length (m .objects)); objects = padded (m .objects) }
+shown (refused number) = record { outcome = Refused number; objects = replicate 6 0 }
 
 -- the refusal number of an answer, 0 for a message
-abbrev pub answerNumber : Answer → ℕ
-answerNumber (Answer·Message h count) = 0
-answerNumber (Refused number) = number
+abbrev pub readNumber : ReadAs → ℕ
+readNumber (ReadAs·Message h count) = 0
+readNumber (Refused number) = number

@@ -79,12 +79,6 @@ abbrev pub allowed : ℕ → ℕ → Bool
 allowed command kind =
     ltb command 32 && getD (true ∷ oneToFive command ∷ not (eqb command 6) ∷ oneToFive command ∷ []) kind false
 
--- what a row keeps for a type: a pair that is not allowed has no count of objects, a NAK or a BUSY has 1 and no message more than 7
-abbrev pub typeRule : ℕ → Row → ℕ → Bool
-typeRule command r kind =
-    leb 1 (countsOf r kind / 16) &&
-    leb (countsOf r kind % 16) (cond (allowed command kind) (getD (7 ∷ 7 ∷ 1 ∷ 1 ∷ []) kind 0) 0)
-
 -- a head that the row of a command lets through, where the pair is allowed
 abbrev pub firstHead : ℕ → ℕ → Head
 firstHead command kind = record { svid = pdSid; command = command; kind = kind; position = rowOf command .first }

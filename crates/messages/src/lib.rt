@@ -43,13 +43,13 @@ pub const EXIT: u8 = 5;
 pub const ATTENTION: u8 = 6;
 
 // A message's head and the number of objects after the header, or a refusal number.
-pub enum Answer {
+pub enum ReadAs {
     Message(Head, u8),
     Refused(u8),
 }
 
 // What reading gives: the objects after the header stand first among the six words, and zeros behind them.
 pub struct Reading {
-    pub answer: Answer,
+    pub outcome: ReadAs,
     pub objects: [u32; 6],
 }

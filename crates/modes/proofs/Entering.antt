@@ -12,7 +12,7 @@ use borrow.Author.Tests.{eq-eqb, ne-eqb, le-leb, lt-leb, lt-ltb, le-ltb}
 use Rattle.messages.specs.Requests.{enterCommand, exitCommand}
 use Rattle.messages.specs.declared.request.Request.{Request}
 use Rattle.laptop.specs.Calls.{refuses, unless}
-use Rattle.laptop.specs.Catalogue.{heldList}
+use Rattle.laptop.specs.Catalogue.{modesNumber, heldList}
 use Rattle.laptop.specs.Marks.{placeOf, named, isEntered}
 use Rattle.owner.specs.Owner.{ownerRefusal, asks, hasMode, isAbsent, enterRefusal, enters, decideEnter, exitRefusal, exits, decideExit}
 use Rattle.laptop.specs.declared.Candidate.{Candidate}
@@ -32,7 +32,7 @@ module _ (modes : List ℕ) (place position : ℕ) where
   unfolding hasMode
   has-none h = simp (lt-leb _ _ h)
 
-  pub has-by : (n : ℕ) → 1 ≤ position → n ≡ getD modes place 0 → leb position n ≡ hasMode modes place position
+  pub has-by : (n : ℕ) → 1 ≤ position → n ≡ modesNumber modes place → leb position n ≡ hasMode modes place position
   unfolding hasMode
   has-by n h e = ap (leb position) e ∙ simp (le-leb _ _ h)
 

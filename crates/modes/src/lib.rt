@@ -1,18 +1,16 @@
 // The owner's calls that enter and exit modes: document 01, "The laptop end".
 ghost use mathlib.Core.Path.{_≡_};
-ghost use lib.ListN.{length};
-ghost use Rattle.laptop.specs.Calls.{Stepped};
 ghost use Rattle.laptop.specs.Marks.{isEntered};
-ghost use Rattle.owner.specs.Owner.{hasMode, enterRefusal, exitRefusal, decideEnter, decideExit};
+ghost use Rattle.owner.specs.Owner.{hasMode, enterRefusal, exitRefusal, Enters, Exits};
 use laptop::Candidate;
-use laptop::Held;
 use laptop::Laptop;
 use laptop::Step;
 use laptop::held_list;
+use laptop::modes_number;
 use laptop::named;
+use laptop::number_at;
 use laptop::place_of;
 use laptop::refused;
-use laptop::set_at;
 use messages::ENTER;
 use messages::EXIT;
 use messages::Request;
@@ -22,7 +20,7 @@ use owner::owner_refusal;
 fn is_entered(entered: &[u8], place: usize, position: u8) -> bool
     ensures { λ r. ⌜ r ≡ isEntered (now (entered .entry)) place position ⌝ }
 {
-    set_at(entered, place) & named(position) != 0
+    number_at(entered, place) & named(position) != 0
 }
 
 // Is the position one of the modes of the SVID at the place?
@@ -32,7 +30,7 @@ fn has_mode(modes: &[u8], place: usize, position: u8) -> bool
     if position < 1 {
         return false;
     }
-    position <= set_at(modes, place)
+    position <= modes_number(modes, place)
 }
 
 // What refuses *enter* of a held catalogue: 12 if it lacks the mode, 13 if that is entered; else 0.
@@ -92,7 +90,7 @@ pub fn enter(
     held_run: &[u32],
     out: &mut [u8],
 ) -> Step
-    ensures { λ r. ⌜ Stepped laptop (decideEnter laptop (now («held_svids» .entry)) (now («held_modes» .entry)) (now (entered .entry)) (length (now (run .entry))) (length (now («held_run» .entry))) svid position) (now (out .entry)) r (now (out .exit)) ⌝ }
+    ensures { λ r. ⌜ Enters laptop svid position (now («held_svids» .entry)) (now («held_modes» .entry)) (now (entered .entry)) (now (run .entry)) (now («held_run» .entry)) (now (out .entry)) r (now (out .exit)) ⌝ }
 {
     let number = owner_refusal(laptop, run, held_run);
     if number != 0 {
@@ -122,7 +120,7 @@ pub fn exit(
     held_run: &[u32],
     out: &mut [u8],
 ) -> Step
-    ensures { λ r. ⌜ Stepped laptop (decideExit laptop (now («held_svids» .entry)) (now («held_modes» .entry)) (now (entered .entry)) (length (now (run .entry))) (length (now («held_run» .entry))) svid position) (now (out .entry)) r (now (out .exit)) ⌝ }
+    ensures { λ r. ⌜ Exits laptop svid position (now («held_svids» .entry)) (now («held_modes» .entry)) (now (entered .entry)) (now (run .entry)) (now («held_run» .entry)) (now (out .entry)) r (now (out .exit)) ⌝ }
 {
     let number = owner_refusal(laptop, run, held_run);
     if number != 0 {

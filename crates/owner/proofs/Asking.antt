@@ -3,15 +3,16 @@ use mathlib.Core.Path.{_≡_, ap, sym, _∙_}
 use mathlib.Core.Bool.{Bool, true, false, cond, not, _||_}
 use mathlib.Core.List.{List}
 use Prim.Native.Nat.{ℕ, _+_, _<_, _≤_}
-use lib.Dec.{ltb, eqb}
+use lib.Dec.{eqb}
 use lib.ListN.{length, getD, drop, drop-of-length-le}
 use borrow.Author.Tests.{eq-eqb, ne-eqb}
 use Rattle.pages.proofs.Scanning.{next}
 use Rattle.messages.specs.Requests.{identityCommand, svidsCommand, modesCommand}
 use Rattle.messages.specs.Table.{pdSid}
 use Rattle.messages.specs.declared.request.Request.{Request}
-use Rattle.laptop.specs.Calls.{refuses, turns, sends, shortRuns, isAwaiting}
+use Rattle.laptop.specs.Calls.{refuses, accepts, sends, shortRuns, isAwaiting}
 use Rattle.owner.specs.Owner.{ownerRefusal, anyEntered, askingRefusal, requestMessage, discover, asks, asksIdentity, asksNext, decideNext, decideStartOver, decideDrop}
+use Rattle.laptop.specs.Marks.{sixBits}
 use Rattle.laptop.specs.State.{identityAsked, dropped}
 use Rattle.laptop.specs.declared.Candidate.{Candidate}
 use Rattle.laptop.specs.declared.Candidate.the-variants.{Absent, Open, Done}
@@ -56,15 +57,15 @@ module _ (run heldRun : ℕ) where
 
 -- one set after the other
 module _ (l : List ℕ) (i : ℕ) (h : i < length l) where
-  any-step : anyEntered (drop i l) ≡ (not (eqb (getD l i 0) 0) || anyEntered (drop (i + 1) l))
+  any-step : anyEntered (drop i l) ≡ (not (eqb (sixBits (getD l i 0)) 0) || anyEntered (drop (i + 1) l))
   unfolding anyEntered
   any-step = ap anyEntered (next l i h)
 
-  pub any-found : (getD l i 0 ≡ 0 → ⊥) → anyEntered (drop i l) ≡ true
-  any-found n = any-step ∙ ap (λ (t : Bool). not t || anyEntered (drop (i + 1) l)) (ne-eqb _ _ n)
+  pub any-found : (n : ℕ) → n ≡ sixBits (getD l i 0) → (n ≡ 0 → ⊥) → anyEntered (drop i l) ≡ true
+  any-found n e some = any-step ∙ ap (λ (t : Bool). not t || anyEntered (drop (i + 1) l)) (ne-eqb _ _ (λ z. some (e ∙ z)))
 
-  pub any-next : getD l i 0 ≡ 0 → anyEntered (drop i l) ≡ anyEntered (drop (i + 1) l)
-  any-next z = any-step ∙ ap (λ (t : Bool). not t || anyEntered (drop (i + 1) l)) (eq-eqb _ _ z)
+  pub any-next : (n : ℕ) → n ≡ sixBits (getD l i 0) → n ≡ 0 → anyEntered (drop i l) ≡ anyEntered (drop (i + 1) l)
+  any-next n e z = any-step ∙ ap (λ (t : Bool). not t || anyEntered (drop (i + 1) l)) (eq-eqb _ _ (sym e ∙ z))
 
 pub any-none : (l : List ℕ) (i : ℕ) → length l ≤ i → anyEntered (drop i l) ≡ false
 unfolding anyEntered
@@ -72,11 +73,11 @@ any-none l i h = ap anyEntered (drop-of-length-le l h)
 
 -- Identity awaited
 pub identity-awaits : (l : Laptop) (r : Request) → r ≡ discover pdSid identityCommand →
-    record { wait = Answer r; candidate = Absent; gathered = l .gathered; filled = l .filled; pages = 0; held = l .held } ≡ identityAsked l
+    record { wait = Answer r; candidate = Absent; gathered = l .gathered; stored = l .stored; pages = 0; held = l .held } ≡ identityAsked l
 identity-awaits l r e =
     ap
     (λ (x : Request).
-    record { wait = Answer x; candidate = Absent; gathered = l .gathered; filled = l .filled; pages = 0; held = l .held })
+    record { wait = Answer x; candidate = Absent; gathered = l .gathered; stored = l .stored; pages = 0; held = l .held })
     e
 
 -- a request sent
@@ -103,7 +104,7 @@ module _ (l : Laptop) (svids entered : List ℕ) (run heldRun n : ℕ) (e : n �
     unfolding asksNext
     next-open r is er = by-candidate Open is ∙ ap (λ (x : Request). asks x l) (sym er)
 
-    pub next-done : (svid : ℕ) (r : Request) → l .candidate ≡ Done → svid ≡ getD svids (l .filled) 0 → r ≡ discover svid modesCommand →
+    pub next-done : (svid : ℕ) (r : Request) → l .candidate ≡ Done → svid ≡ getD svids (l .stored) 0 → r ≡ discover svid modesCommand →
         decideNext l svids entered run heldRun ≡ asks r l
     unfolding asksNext
     next-done svid r is es er =
@@ -125,6 +126,6 @@ module _ (l : Laptop) (run heldRun n : ℕ) (e : n ≡ ownerRefusal l run heldRu
   unfolding decideDrop
   drop-refused h = unless-refused n _ l _ e h
 
-  pub drop-turns : n ≡ 0 → decideDrop l run heldRun ≡ turns Told·Nothing (dropped l)
+  pub drop-turns : n ≡ 0 → decideDrop l run heldRun ≡ accepts Told·Nothing (dropped l)
   unfolding decideDrop
   drop-turns z = unless-passed n _ l _ e z

@@ -8,13 +8,14 @@ use Rattle.messages.specs.Layout.{req, Message}
 use Rattle.messages.specs.Requests.{svidsCommand, modesCommand, enterCommand, exitCommand, headFor}
 use Rattle.messages.specs.Table.{pdSid}
 use Rattle.messages.specs.declared.request.Request.{Request}
-use Rattle.laptop.specs.Calls.{Decision, turns, sends, unless, shortRuns, isAwaiting}
-use Rattle.laptop.specs.Catalogue.{heldList}
-use Rattle.laptop.specs.Marks.{placeOf, isEntered}
+use Rattle.laptop.specs.Calls.{Decision, accepts, sends, Stepped, unless, shortRuns, isAwaiting}
+use Rattle.laptop.specs.Catalogue.{modesNumber, heldList}
+use Rattle.laptop.specs.Marks.{placeOf, sixBits, isEntered}
 use Rattle.laptop.specs.State.{dropped, awaiting, identityRequest, identityAsked}
 use Rattle.laptop.specs.declared.Candidate.{Candidate}
 use Rattle.laptop.specs.declared.Candidate.the-variants.{Absent, Open, Done}
 use Rattle.laptop.specs.declared.Laptop.{Laptop}
+use Rattle.laptop.specs.declared.Step.{Step}
 use Rattle.laptop.specs.declared.Told.the-variants.{Nothing}
 
 -- all are refused 11 for a short run, and 7 while waiting; run and heldRun are the lengths of what is lent
@@ -23,7 +24,7 @@ ownerRefusal l run heldRun = cond (shortRuns run heldRun) 11 (cond (isAwaiting (
 
 unfoldable pub anyEntered : List ℕ → Bool
 anyEntered [] = false
-anyEntered (set ∷ sets) = not (eqb set 0) || anyEntered sets
+anyEntered (set ∷ sets) = not (eqb (sixBits set) 0) || anyEntered sets
 
 -- next and start over are refused 13 while any mode is entered
 unfoldable pub askingRefusal : Laptop → List ℕ → ℕ → ℕ → ℕ
@@ -47,7 +48,7 @@ asksIdentity l = sends (requestMessage identityRequest) (identityAsked l)
 unfoldable pub asksNext : Laptop → List ℕ → Candidate → Decision
 asksNext l svids Absent = asksIdentity l
 asksNext l svids Open = asks (discover pdSid svidsCommand) l
-asksNext l svids Done = asks (discover (getD svids (l .filled) 0) modesCommand) l
+asksNext l svids Done = asks (discover (getD svids (l .stored) 0) modesCommand) l
 
 unfoldable pub decideNext : Laptop → List ℕ → List ℕ → ℕ → ℕ → Decision
 decideNext l svids entered run heldRun =
@@ -57,11 +58,11 @@ unfoldable pub decideStartOver : Laptop → List ℕ → ℕ → ℕ → Decisio
 decideStartOver l entered run heldRun = unless (askingRefusal l entered run heldRun) l (asksIdentity l)
 
 unfoldable pub decideDrop : Laptop → ℕ → ℕ → Decision
-decideDrop l run heldRun = unless (ownerRefusal l run heldRun) l (turns Nothing (dropped l))
+decideDrop l run heldRun = unless (ownerRefusal l run heldRun) l (accepts Nothing (dropped l))
 
 -- the position is one of the modes of the SVID at the place
 unfoldable pub hasMode : List ℕ → ℕ → ℕ → Bool
-hasMode modes place position = leb 1 position && leb position (getD modes place 0)
+hasMode modes place position = leb 1 position && leb position (modesNumber modes place)
 
 abbrev pub isAbsent : Candidate → Bool
 isAbsent Absent = true
@@ -100,3 +101,12 @@ exits l heldSvids heldModes entered svid position =
 unfoldable pub decideExit : Laptop → List ℕ → List ℕ → List ℕ → ℕ → ℕ → ℕ → ℕ → Decision
 decideExit l heldSvids heldModes entered run heldRun svid position =
     unless (ownerRefusal l run heldRun) l (exits l heldSvids heldModes entered svid position)
+
+-- what enter and exit promise, by all that they are lent
+abbrev pub Enters : Laptop → ℕ → ℕ → List ℕ → List ℕ → List ℕ → List ℕ → List ℕ → List ℕ → Step → List ℕ → Type 0
+Enters l svid position heldSvids heldModes entered run heldRun out step after =
+    Stepped l (decideEnter l heldSvids heldModes entered (length run) (length heldRun) svid position) out step after
+
+abbrev pub Exits : Laptop → ℕ → ℕ → List ℕ → List ℕ → List ℕ → List ℕ → List ℕ → List ℕ → Step → List ℕ → Type 0
+Exits l svid position heldSvids heldModes entered run heldRun out step after =
+    Stepped l (decideExit l heldSvids heldModes entered (length run) (length heldRun) svid position) out step after

@@ -11,10 +11,11 @@ use laptop::Laptop;
 use laptop::Step;
 use laptop::Told;
 use laptop::Wait;
+use laptop::accepted;
 use laptop::dropped;
 use laptop::refused;
 use laptop::short_runs;
-use laptop::turned;
+use laptop::six_bits;
 use messages::IDENTITY;
 use messages::MODES;
 use messages::PD_SID;
@@ -42,7 +43,7 @@ fn any_entered(entered: &[u8]) -> bool
 {
     let mut i = 0;
     while i < entered.len() {
-        if entered[i] != 0 {
+        if six_bits(entered[i]) != 0 {
             return true;
         }
         i += 1;
@@ -130,10 +131,10 @@ fn ask_identity(laptop: Laptop, out: &mut [u8]) -> Step
 }
 
 // The first SVID without modes.
-fn missing(svids: &[u16], filled: u8) -> u16
-    ensures { λ r. ⌜ r ≡ getD (now (svids .entry)) filled 0 ⌝ }
+fn missing(svids: &[u16], stored: u8) -> u16
+    ensures { λ r. ⌜ r ≡ getD (now (svids .entry)) stored 0 ⌝ }
 {
-    let i = filled as usize;
+    let i = stored as usize;
     if i < svids.len() { svids[i] } else { 0 }
 }
 
@@ -156,7 +157,7 @@ pub fn next(
     match candidate {
         Candidate::Absent => ask_identity(laptop, out),
         Candidate::Open => ask(laptop, discover(PD_SID, SVIDS), out),
-        Candidate::Done => ask(laptop, discover(missing(svids, laptop.filled), MODES), out),
+        Candidate::Done => ask(laptop, discover(missing(svids, laptop.stored), MODES), out),
     }
 }
 
@@ -185,5 +186,5 @@ pub fn drop(laptop: Laptop, run: &[u32], held_run: &[u32], out: &mut [u8]) -> St
     if number != 0 {
         return refused(number, laptop);
     }
-    turned(Told::Nothing, dropped(laptop))
+    accepted(Told::Nothing, dropped(laptop))
 }

@@ -101,12 +101,12 @@ page-parts list p b = page-values list p b ∙ go (ltb (length (remaining list p
         let full : 12 ≤ length rest = ltb-false (length rest) 12 e in
         rw (le-leb 12 (length rest) full) (sym (append-nil (take 12 rest)))
 
-read-zeros : (n : ℕ) → readOff (replicate n 0) ≡ []
+pub read-zeros : (n : ℕ) → readOff (replicate n 0) ≡ []
 unfolding readOff
 read-zeros zero = refl
 read-zeros (suc n) = refl
 
-read-values : (vs zeros : List ℕ) → NoZero vs → readOff zeros ≡ [] → readOff (vs ++ zeros) ≡ vs
+pub read-values : (vs zeros : List ℕ) → NoZero vs → readOff zeros ≡ [] → readOff (vs ++ zeros) ≡ vs
 unfolding readOff
 read-values [] zeros h z = z
 read-values (v ∷ vs) zeros h z =

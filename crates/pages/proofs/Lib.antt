@@ -2,3 +2,5 @@
 pub mod Laws
 pub mod Making
 pub mod Scanning
+pub mod Tight
+pub mod Words

@@ -9,7 +9,7 @@ use Rattle.messages.specs.Reading.{accepted, readOutcome}
 use Rattle.messages.specs.Writing.{wellShaped}
 use Rattle.messages.specs.declared.request.Request.{Request}
 use Rattle.dock.specs.Data.{listed}
-use Rattle.dock.specs.Dock.{sends, decideAnswer}
+use Rattle.dock.specs.Dock.{sends, decidePolicyAnswer}
 use Rattle.dock.specs.declared.Dock.{Dock}
 use Rattle.dock.specs.declared.Policy.the-variants.{Give}
 use Rattle.dock.specs.declared.Standing.the-variants.{Ready, Asking, Sending}
@@ -20,14 +20,14 @@ use Rattle.owner.specs.Owner.{anyEntered, requestMessage, asksNext}
 use Rattle.laptop.specs.State.{Memory}
 use Rattle.laptop.specs.declared.Laptop.{Laptop}
 use Rattle.laptop.specs.declared.Wait.the-variants.{Nothing}
-use Rattle.laptop_laws.specs.Done.{next}
+use Rattle.laptop_laws.specs.Effects.{next}
 use Rattle.laptop_laws.specs.Holding.{Holding, holding}
 use Rattle.link.specs.Demand.{Meets, whole, heldIn, heldWords, Holds}
 use Rattle.link.specs.Exchanges.{exchange, Throughout}
 use Rattle.link.specs.Joined.{Way, clear, gone, System, calls, reach, answer, arrive, sent}
 use Rattle.link.specs.Link.{brought, opens, step, run}
 use Rattle.link.specs.Needed.{needed, received}
-use Rattle.unharmed.specs.LastAnswer.{isLastHead, isLastOutcome, isLastAnswer}
+use Rattle.unharmed.proofs.LastAnswer.{isLastHead, isLastOutcome, isLastAnswer}
 use Rattle.unharmed.proofs.AtDock.{pageThen}
 use Rattle.unharmed.proofs.Course.{movesOn}
 use Rattle.unharmed.proofs.Invariant.{dockAt, Reached}
@@ -63,7 +63,7 @@ module _ (modesOf : ℕ → List ℕ) (start : System) (meets : Meets modesOf (s
       (r : Request) (asking : Laptop) (asks : asksNext l (m .svids) (l .candidate) ≡ Laptop·sends (requestMessage r) asking)
       (awaits : isAwaiting (asking .wait) ≡ true) (keeps : holding asking m ≡ holding l m) (good : wellShaped (requestMessage r) ≡ true) (least : 1 ≤ r .command)
       (most : r .command ≤ 5) (x : Message) (b : Bool)
-      (given : decideAnswer (dockAt modesOf d (pageThen r page) (Asking r)) (Asking r) Give r (brought modesOf Give r) ≡ sends x (dockAt modesOf d (pageThen r page) (Sending b)))
+      (given : decidePolicyAnswer (dockAt modesOf d (pageThen r page) (Asking r)) (Asking r) Give r (brought modesOf Give r) ≡ sends x (dockAt modesOf d (pageThen r page) (Sending b)))
       (shaped : wellShaped x ≡ true) (result : Result) (heard-is : heard asking m (readOutcome (messageBytes x)) ≡ result) where
     abbrev s : System
     s = rested modesOf d meets old base out room l m way page

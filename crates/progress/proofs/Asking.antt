@@ -22,7 +22,7 @@ use Rattle.laptop.specs.declared.Candidate.{Candidate}
 use Rattle.laptop.specs.declared.Candidate.the-variants.{Absent, Open, Done}
 use Rattle.laptop.specs.declared.Laptop.{Laptop}
 use Rattle.laptop.specs.declared.Wait.the-variants.{Nothing, Answer}
-use Rattle.laptop_laws.specs.Done.{next}
+use Rattle.laptop_laws.specs.Effects.{next}
 use Rattle.laptop_laws.specs.WellFormed.{Listed, CandidateFits}
 use Rattle.link.specs.Demand.{Meets, Begins, heldWords}
 use Rattle.link.specs.Exchanges.{AsksModes, NextAsks}
@@ -67,29 +67,29 @@ module _ (modesOf : ℕ → List ℕ) (start : System) (meets : Meets modesOf (s
   svids-next a =
       awaited (discover pdSid svidsCommand) (awaiting (discover pdSid svidsCommand) (s .laptop)) (asks-svids (s .laptop) (s .memory .svids) a) refl svids-request-shaped
 
-  modes-next : s .laptop .candidate ≡ Done → s .laptop .filled < length (listed d) → Come modesOf d meets (length (listed d) / 12 + 1) (s .laptop .filled) got →
+  modes-next : s .laptop .candidate ≡ Done → s .laptop .stored < length (listed d) → Come modesOf d meets (length (listed d) / 12 + 1) (s .laptop .stored) got →
       AsksModes modesOf d got after
   modes-next a h come =
-      let fits : Listed (s .laptop .gathered) (s .laptop .filled) (s .memory .svids) (s .memory .modes) × (s .laptop .filled < s .laptop .gathered .count) =
-      subst (λ (c : Candidate). CandidateFits c (s .laptop .gathered) (s .laptop .pages) (s .laptop .filled) (s .memory .svids) (s .memory .modes)) a
+      let fits : Listed (s .laptop .gathered) (s .laptop .stored) (s .memory .svids) (s .memory .modes) × (s .laptop .stored < s .laptop .gathered .count) =
+      subst (λ (c : Candidate). CandidateFits c (s .laptop .gathered) (s .laptop .pages) (s .laptop .stored) (s .memory .svids) (s .memory .modes)) a
       (r .invariant .formed .candidate-fits) in
-      let complete : Complete modesOf d (s .laptop .gathered) (s .laptop .filled) (s .laptop .pages) (s .memory) (r .carried) (s .lost) =
-      subst (λ (c : Candidate). CandidateIs modesOf d c (s .laptop .gathered) (s .laptop .filled) (s .laptop .pages) (s .memory) (r .standing-at) (r .page-at) (r .carried) (s .lost)) a
+      let complete : Complete modesOf d (s .laptop .gathered) (s .laptop .stored) (s .laptop .pages) (s .memory) (r .carried) (s .lost) =
+      subst (λ (c : Candidate). CandidateIs modesOf d c (s .laptop .gathered) (s .laptop .stored) (s .laptop .pages) (s .memory) (r .standing-at) (r .page-at) (r .carried) (s .lost)) a
       (r .invariant .candidate-is) in
-      let named : getD (s .memory .svids) (s .laptop .filled) 0 ≡ getD (listed d) (s .laptop .filled) 0 =
-      sym (getD-take (s .laptop .gathered .count) (s .memory .svids) (s .laptop .filled) 0 (fits .1)) ∙
-      ap (λ (x : List ℕ). getD x (s .laptop .filled) 0) (complete .same-list) in
-      let good : wellShaped (requestMessage (discover (getD (s .memory .svids) (s .laptop .filled) 0) modesCommand)) ≡ true =
+      let named : getD (s .memory .svids) (s .laptop .stored) 0 ≡ getD (listed d) (s .laptop .stored) 0 =
+      sym (getD-take (s .laptop .gathered .count) (s .memory .svids) (s .laptop .stored) 0 (fits .1)) ∙
+      ap (λ (x : List ℕ). getD x (s .laptop .stored) 0) (complete .same-list) in
+      let good : wellShaped (requestMessage (discover (getD (s .memory .svids) (s .laptop .stored) 0) modesCommand)) ≡ true =
       subst (λ (n : ℕ). wellShaped (requestMessage (discover n modesCommand)) ≡ true) (sym named)
-      (modes-request-shaped (getD (listed d) (s .laptop .filled) 0) (some-svid modesOf d meets (s .laptop .filled) h) (meets .svids-fit (s .laptop .filled))) in
+      (modes-request-shaped (getD (listed d) (s .laptop .stored) 0) (some-svid modesOf d meets (s .laptop .stored) h) (meets .svids-fit (s .laptop .stored))) in
       record {
-        place = s .laptop .filled;
+        place = s .laptop .stored;
         is-listed = h;
         asked =
-            awaited (discover (getD (s .memory .svids) (s .laptop .filled) 0) modesCommand) (awaiting (discover (getD (s .memory .svids) (s .laptop .filled) 0) modesCommand) (s .laptop))
+            awaited (discover (getD (s .memory .svids) (s .laptop .stored) 0) modesCommand) (awaiting (discover (getD (s .memory .svids) (s .laptop .stored) 0) modesCommand) (s .laptop))
             (asks-modes (s .laptop) (s .memory .svids) a) refl good ∙
             ap (λ (n : ℕ). Answer (discover n modesCommand)) named;
-        not-come = come .modes-came (s .laptop .filled) h ∙ le-ltb (s .laptop .filled) (s .laptop .filled) (omega arith);
+        not-come = come .modes-came (s .laptop .stored) h ∙ le-ltb (s .laptop .stored) (s .laptop .stored) (omega arith);
       }
 
   asks-so : Tells modesOf d meets (s .laptop) got → NextAsks modesOf d s got out
@@ -114,13 +114,13 @@ module _ (modesOf : ℕ → List ℕ) (start : System) (meets : Meets modesOf (s
       begun (inr e) = omega (arith, open-needed modesOf d meets p got most come)
   asks-so (modes-come a some h k come) = (
     λ x. absurd (begun x),
-    λ x y. absurd (false≢true (sym (list-done (listed d) got (modes-left-list modesOf d meets (s .laptop .filled) got some come)) ∙ y)),
+    λ x y. absurd (false≢true (sym (list-done (listed d) got (modes-left-list modesOf d meets (s .laptop .stored) got some come)) ∙ y)),
     λ x y. modes-next a h come,
   )
     where
       begun : (got ≡ []) ⊎ (needed modesOf d got ≡ 0) → ⊥
       begun (inl e) = false≢true (ap (hasCome (identityAnswer d)) (sym e) ∙ come .identity-came)
-      begun (inr e) = omega (arith, still-needed modesOf d meets (length (listed d) / 12 + 1) (s .laptop .filled) got come some)
+      begun (inr e) = omega (arith, still-needed modesOf d meets (length (listed d) / 12 + 1) (s .laptop .stored) got come some)
 
 pub asks-for-what-is-needed : (modesOf : ℕ → List ℕ) (start : System) → Meets modesOf (start .dock) → Begins start → (events : List Event) (out : List ℕ) → 28 ≤ length out →
     run modesOf events start .laptop .wait ≡ Nothing → anyEntered (run modesOf events start .memory .entered) ≡ false →

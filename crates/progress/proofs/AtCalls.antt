@@ -11,13 +11,13 @@ use borrow.Author.Tests.{ne-eqb}
 use Rattle.messages.specs.Layout.{Message, messageBytes}
 use Rattle.messages.specs.Writing.{writeRefusal}
 use Rattle.dock.specs.declared.Dock.{Dock}
-use Rattle.laptop.specs.Calls.{Decision, refuses, turns, sends, refusedBy, sentBy, stepOf, unless}
+use Rattle.laptop.specs.Calls.{Decision, refuses, accepts, sends, refusedBy, sentBy, stepOf, unless}
 use Rattle.owner.specs.Owner.{isAbsent, requestMessage}
 use Rattle.laptop.specs.State.{Memory, ended, dropped, awaiting, identityRequest, identityAsked}
 use Rattle.laptop.specs.declared.Candidate.the-variants.{Absent}
 use Rattle.laptop.specs.declared.Laptop.{Laptop}
 use Rattle.laptop.specs.declared.Told.the-variants.{Nothing as Told·Nothing}
-use Rattle.laptop_laws.specs.Done.{Call, message, next, startOver, drop, enter, exit, timer, protocolError, decided}
+use Rattle.laptop_laws.specs.Effects.{Call, message, next, startOver, drop, enter, exit, timer, protocolError, decided}
 use Rattle.laptop_laws.specs.WellFormed.{awaitsIdentity}
 use Rattle.link.specs.Demand.{Meets}
 use Rattle.link.specs.Needed.{needed, identityOut}
@@ -100,13 +100,13 @@ module _ (modesOf : ℕ → List ℕ) (d : Dock) (meets : Meets modesOf d) (got 
 
     -- drop is refused, or nothing has come after it
     pub drop-outcome : (ending : Type 0) → ending → (number : ℕ) →
-        Outcome (stepOf l (unless number l (turns Told·Nothing (dropped l))) (length out) .laptop)
-        (cond (eqb (stepOf l (unless number l (turns Told·Nothing (dropped l))) (length out) .refusal) 0) [] got) ending
+        Outcome (stepOf l (unless number l (accepts Told·Nothing (dropped l))) (length out) .laptop)
+        (cond (eqb (stepOf l (unless number l (accepts Told·Nothing (dropped l))) (length out) .refusal) 0) [] got) ending
     unfolding unless stepOf
     drop-outcome ending why number = go (eqb number 0) refl
       where
         go : (b : Bool) → eqb number 0 ≡ b →
-            Outcome (stepOf l (cond b (turns Told·Nothing (dropped l)) (refuses number l)) (length out) .laptop)
-            (cond (eqb (stepOf l (cond b (turns Told·Nothing (dropped l)) (refuses number l)) (length out) .refusal) 0) [] got) ending
+            Outcome (stepOf l (cond b (accepts Told·Nothing (dropped l)) (refuses number l)) (length out) .laptop)
+            (cond (eqb (stepOf l (cond b (accepts Told·Nothing (dropped l)) (refuses number l)) (length out) .refusal) 0) [] got) ending
         go true e = inr (refl, none-came refl refl, λ h. inr why)
         go false e = inl (ap (λ (b : Bool). cond b [] got) e, tells)

@@ -9,7 +9,7 @@ use Rattle.messages.specs.Reading.{readOutcome}
 use Rattle.messages.specs.Writing.{wellShaped}
 use Rattle.messages.specs.declared.request.Request.{Request}
 use Rattle.dock.specs.Data.{listed}
-use Rattle.dock.specs.Dock.{sends, decideAnswer}
+use Rattle.dock.specs.Dock.{sends, decidePolicyAnswer}
 use Rattle.dock.specs.declared.Dock.{Dock}
 use Rattle.dock.specs.declared.Policy.the-variants.{Give}
 use Rattle.dock.specs.declared.Standing.{Standing}
@@ -46,7 +46,7 @@ module _ (modesOf : ℕ → List ℕ) (d : Dock) (meets : Meets modesOf d) (old 
   -- the list is open and the dock in step with it, or modes are missing
   pub data Stage (l : Laptop) (page : ℕ) : Type 0 where
     listing : l .candidate ≡ Open → l .gathered .count ≡ page * 12 → Stage l page
-    filling : l .candidate ≡ Done → Stage l page
+    storing : l .candidate ≡ Done → Stage l page
 
   pub record Clean (l : Laptop) (m : Memory) (way : Way) (page : ℕ) (got : List Message) : Type 0 where
     pub reached-so : Reached modesOf d old (rested l m way page)
@@ -74,7 +74,7 @@ module _ (modesOf : ℕ → List ℕ) (d : Dock) (meets : Meets modesOf d) (old 
   -- from the moment that a request is out: it reaches the dock, policy gives x, x arrives, and "sent" is heard
   module _ (l : Laptop) (m : Memory) (fate : Fate) (q : ℕ) (t : Standing) (z : ℕ) (free : isConfirmed fate ≡ false) (r : Request)
       (good : wellShaped (requestMessage r) ≡ true) (least : 1 ≤ r .command) (most : r .command ≤ 5) (x : Message) (b : Bool)
-      (given : decideAnswer (dockAt modesOf d (pageThen r q) (Asking r)) (Asking r) Give r (brought modesOf Give r) ≡ sends x (dockAt modesOf d (pageThen r q) (Sending b)))
+      (given : decidePolicyAnswer (dockAt modesOf d (pageThen r q) (Asking r)) (Asking r) Give r (brought modesOf Give r) ≡ sends x (dockAt modesOf d (pageThen r q) (Sending b)))
       (shaped : wellShaped x ≡ true) (result : Result) (heard-is : heard l m (readOutcome (messageBytes x)) ≡ result) where
     abbrev pub asked-out : System
     asked-out = standing modesOf d out room l m (request (messageBytes (requestMessage r))) fate q t z

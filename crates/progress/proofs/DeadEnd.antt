@@ -12,7 +12,7 @@ use Rattle.dock.specs.declared.Dock.{Dock}
 use Rattle.dock.specs.declared.Standing.{Standing}
 use Rattle.dock.specs.declared.Standing.the-variants.{Ready, Asking, Sending}
 use Rattle.hearing.specs.Hearing.{Result, fits, isLatePage, heard}
-use Rattle.laptop.specs.Calls.{turns, stepOf, unless}
+use Rattle.laptop.specs.Calls.{accepts, stepOf, unless}
 use Rattle.owner.specs.Owner.{ownerRefusal, anyEntered, requestMessage, decideDrop}
 use Rattle.laptop.specs.State.{Memory, ended, dropped, identityRequest, identityAsked}
 use Rattle.laptop.specs.declared.Candidate.the-variants.{Absent}
@@ -21,7 +21,7 @@ use Rattle.laptop.specs.declared.Told.{Told}
 use Rattle.laptop.specs.declared.Told.the-variants.{Nothing as Told·Nothing}
 use Rattle.laptop.specs.declared.Wait.{Wait}
 use Rattle.laptop.specs.declared.Wait.the-variants.{Nothing, Answer}
-use Rattle.laptop_laws.specs.Done.{next, drop, protocolError}
+use Rattle.laptop_laws.specs.Effects.{next, drop, protocolError}
 use Rattle.laptop_laws.specs.Holding.{Holding, holding}
 use Rattle.laptop_laws.specs.WellFormed.{WellFormed}
 use Rattle.link.specs.Demand.{Meets, Begins, whole, heldWords, Holds}
@@ -49,7 +49,7 @@ error-ends l Nothing room e = e
 error-ends l (Answer r) room e = go (eqb (r .command) 1) (ltb (r .command) 4) _
   where
     go : (a b : Bool) (told : Told) →
-        stepOf l (cond a (turns Told·Nothing (dropped l)) (cond b (turns Told·Nothing (ended l)) (turns told (ended l)))) room .laptop .wait ≡ Nothing
+        stepOf l (cond a (accepts Told·Nothing (dropped l)) (cond b (accepts Told·Nothing (ended l)) (accepts told (ended l)))) room .laptop .wait ≡ Nothing
     go true b told = refl
     go false true told = refl
     go false false told = refl
@@ -131,9 +131,9 @@ module _ (modesOf : ℕ → List ℕ) (start : System) (meets : Meets modesOf (s
       (ends-whole modesOf start meets all old (holding (s .laptop) (s .memory)) out room (s .laptop) (s .memory) (s .way) (s .fate) (r .page-at) (r .standing-at) (s .lost)
       (r .invariant .formed .lent) idle absent unentered free refl out-now .1)
 
-  settled : (s : System) → Reached modesOf d old s → anyEntered (s .memory .entered) ≡ false → NoDeadEnd modesOf d s out
+  brought-to-rest : (s : System) → Reached modesOf d old s → anyEntered (s .memory .entered) ≡ false → NoDeadEnd modesOf d s out
   unfolding run step called
-  settled s r unentered =
+  brought-to-rest s r unentered =
       let ended-now : step modesOf (calls protocolError []) s .laptop .wait ≡ Nothing = error-ends (s .laptop) (s .laptop .wait) 0 refl in
       let after-error = steps modesOf d meets old (calls protocolError []) s r in
       let heard-now = heard-out modesOf d meets old (step modesOf (calls protocolError []) s) after-error ended-now in
@@ -148,4 +148,4 @@ module _ (modesOf : ℕ → List ℕ) (start : System) (meets : Meets modesOf (s
 
   pub no-dead-end : Begins start → (events : List Event) → anyEntered (run modesOf events start .memory .entered) ≡ false →
       NoDeadEnd modesOf d (run modesOf events start) out
-  no-dead-end begins events unentered = settled (run modesOf events start) (there modesOf start meets begins events) unentered
+  no-dead-end begins events unentered = brought-to-rest (run modesOf events start) (there modesOf start meets begins events) unentered

@@ -1,32 +1,23 @@
 -- The answers that a gathering needs are all different.
-use mathlib.Core.Path.{_≡_, refl, ap, ap₂, sym, _∙_}
-use mathlib.Core.Bool.{Bool, true, false, cond, not, _&&_, false≢true}
+use mathlib.Core.Path.{_≡_, refl, ap, sym, _∙_}
+use mathlib.Core.Bool.{Bool, true, false, cond, false≢true}
 use mathlib.Core.List.{List, [], _∷_, _++_}
-use Prim.Native.Nat.{ℕ, zero, suc, _+_, _*_, _/_, _^_, _<_, _≤_}
+use Prim.Native.Nat.{ℕ, _+_, _*_, _/_, _^_, _<_, _≤_}
 use native.Mathlib.Omega.{arith}
 use lib.Dec.{leb, ltb, eqb}
-use lib.ListN.{length, getD, take, List·getD-eq-default}
+use lib.ListN.{length, getD, take}
 use lib.Seq.{getD-drop}
 use borrow.Author.Tests.{eqb-true, eqb-false, eq-eqb, ne-eqb, ltb-true, ltb-false}
 use Rattle.laws.specs.Bounded.{Below}
-use Rattle.laws.proofs.Lines.{and-left, and-right}
 use Rattle.messages.specs.Layout.{Message}
-use Rattle.pages.specs.Lists.{isIn, soundList}
+use Rattle.pages.specs.Lists.{soundList}
 use Rattle.pages.specs.Pages.{halves, ending, values, page, remaining}
 use Rattle.pages.proofs.Laws.{page-values}
+use Rattle.pages.proofs.Words.{places-differ}
 use Rattle.taking.specs.Taking.{sameList}
-use Rattle.taking.proofs.Gathering.{or-none, same-self}
+use Rattle.taking.proofs.Gathering.{same-lists, same-self}
 use Rattle.laptop_laws.proofs.Behind.{below}
 use Rattle.link.specs.Needed.{pageAnswer, modesAnswer, sameMessage}
-
--- lists that are told the same are the same
-same-lists : (a b : List ℕ) → sameList a b ≡ true → a ≡ b
-unfolding sameList
-same-lists [] [] e = refl
-same-lists [] (y ∷ b) e = absurd (false≢true e)
-same-lists (x ∷ a) [] e = absurd (false≢true e)
-same-lists (x ∷ a) (y ∷ b) e =
-    ap₂ (λ (z : ℕ) (c : List ℕ). z ∷ c) (eqb-true x y (and-left (eqb x y) _ e)) (same-lists a b (and-right (eqb x y) _ e))
 
 -- a message is the same as itself
 pub same-message : (m : Message) → sameMessage m m ≡ true
@@ -34,34 +25,6 @@ unfolding sameMessage
 same-message m =
     rw (eq-eqb (m .head .command) (m .head .command) refl, eq-eqb (m .head .kind) (m .head .kind) refl, eq-eqb (m .head .svid) (m .head .svid) refl, eq-eqb (m .head .position) (m .head .position) refl)
     (same-self (m .objects))
-
--- in a sound list no two places have the same SVID, and none has the 0 that stands behind its end
-not-in : (svid : ℕ) (list : List ℕ) (j : ℕ) → isIn svid list ≡ false → j < length list → getD list j 0 ≡ svid → ⊥
-unfolding isIn
-not-in svid [] j n h e = omega arith
-not-in svid (x ∷ list) zero n h e = eqb-false x svid (or-none (eqb x svid) (isIn svid list) n .0) e
-not-in svid (x ∷ list) (suc j) n h e = not-in svid list j (or-none (eqb x svid) (isIn svid list) n .1) (omega arith) e
-
-not-is : (b : Bool) → not b ≡ true → b ≡ false
-not-is true e = absurd (false≢true e)
-not-is false e = refl
-
-pub places-differ : (list : List ℕ) → soundList list ≡ true → (i j : ℕ) → i < j → i < length list → getD list i 0 ≡ getD list j 0 → ⊥
-unfolding soundList
-places-differ [] s i j less h e = omega arith
-places-differ (x ∷ list) s i zero less h e = omega arith
-places-differ (x ∷ list) s zero (suc j) less h e = go (ltb j (length list)) refl
-  where
-    rest : (not (isIn x list) && soundList list) ≡ true
-    rest = and-right (not (eqb x 0)) _ s
-
-    go : (b : Bool) → ltb j (length list) ≡ b → ⊥
-    go true b = not-in x list j (not-is (isIn x list) (and-left (not (isIn x list)) _ rest)) (ltb-true j (length list) b) (sym e)
-    go false b =
-        eqb-false x 0 (not-is (eqb x 0) (and-left (not (eqb x 0)) _ s))
-        (e ∙ List·getD-eq-default list 0 (ltb-false j (length list) b))
-places-differ (x ∷ list) s (suc i) (suc j) less h e =
-    places-differ list (and-right (not (isIn x list)) _ (and-right (not (eqb x 0)) _ s)) i j (omega arith) (omega arith) e
 
 -- page p begins with SVID 12 p + 1, or with a zero behind the end
 first-value : (rest : List ℕ) → getD (values rest) 0 0 ≡ getD rest 0 0

@@ -19,14 +19,14 @@ use Rattle.owner.specs.Owner.{decideDrop}
 use Rattle.laptop.specs.State.{Memory}
 use Rattle.laptop.specs.declared.Candidate.the-variants.{Absent}
 use Rattle.laptop.specs.declared.Laptop.{Laptop}
-use Rattle.laptop_laws.specs.Done.{Call, message, next, startOver, drop, enter, exit, timer, protocolError}
+use Rattle.laptop_laws.specs.Effects.{Call, message, next, startOver, drop, enter, exit, timer, protocolError}
 use Rattle.laptop_laws.specs.Holding.{Holding}
 use Rattle.laptop_laws.specs.WellFormed.{awaitsIdentity, WellFormed}
 use Rattle.link.specs.Demand.{Meets, whole, heldWords, Holds, refusalOf, Lowers, Replaces, Raises, EndsBy, Ending, by-drop, by-start-over, by-late-page, by-fourteen}
 use Rattle.link.specs.Joined.{Way, System, Event, calls, loseRequest, reach, answer, loseAnswer, arrive, sent, failed}
 use Rattle.link.specs.Link.{called, isUnsure, opens, lostOnArrival, step, run}
 use Rattle.link.specs.Needed.{answersNeeded, needed, withMessage, withArrival, newIn, newOf, onWay, beginsAnew, receivedBy, received, bringsNew}
-use Rattle.unharmed.specs.LastAnswer.{isLastHead, isLastOutcome, isLastOf, isLastAnswer}
+use Rattle.unharmed.proofs.LastAnswer.{isLastHead, isLastOutcome, isLastOf, isLastAnswer}
 use Rattle.unharmed.proofs.Arriving.{gives-gave, answer-read, timely}
 use Rattle.unharmed.proofs.Arrival.{confirmed-first}
 use Rattle.unharmed.proofs.AtDock.{Inv}

@@ -13,7 +13,7 @@ use Rattle.messages.specs.Table.{pdSid}
 use Rattle.messages.specs.Writing.{wellShaped}
 use Rattle.messages.specs.declared.request.Request.{Request}
 use Rattle.dock.specs.Data.{listed, goodIdentity}
-use Rattle.dock.specs.Dock.{Decision, turns, sends, stepOf, isEmpty, asking, sending, givePage, giveIdentity, giveModes, giveOther, bare, decidePolicy, decideMessage, decideAnswer}
+use Rattle.dock.specs.Dock.{Decision, accepts, sends, stepOf, isEmpty, asking, sending, givePage, giveIdentity, giveModes, giveOther, bare, decidePolicy, decideMessage, decidePolicyAnswer}
 use Rattle.dock.specs.declared.Dock.{Dock}
 use Rattle.dock.specs.declared.Policy.the-variants.{Give}
 use Rattle.dock.specs.declared.Standing.{Standing}
@@ -27,7 +27,7 @@ use Rattle.owner.specs.Owner.{ownerRefusal, anyEntered, askingRefusal, discover
 use Rattle.laptop.specs.State.{Memory, identityRequest}
 use Rattle.laptop.specs.declared.Laptop.{Laptop}
 use Rattle.laptop.specs.declared.Wait.the-variants.{Nothing}
-use Rattle.laptop_laws.specs.Done.{message, next, decided, done}
+use Rattle.laptop_laws.specs.Effects.{message, next, decided, effectOf}
 use Rattle.laptop_laws.specs.Holding.{Holding}
 use Rattle.laptop_laws.specs.WellFormed.{Lent}
 use Rattle.link.specs.Joined.{Way, clear, request, Fate, gone, coming, confirmed, came, System, calls, reach, answer, arrive, sent}
@@ -70,14 +70,14 @@ module _ (modesOf : ℕ → List ℕ) (d : Dock) (out : List ℕ) (room : 28 ≤
 
   -- the request reaches the dock
   module _ (r : Request) (good : wellShaped (requestMessage r) ≡ true) (least : 1 ≤ r .command) (most : r .command ≤ 5) where
-    hears : (q : ℕ) (t : Standing) → decideMessage (dockAt modesOf d q t) (readOutcome (messageBytes (requestMessage r))) ≡ turns (asking r (dockAt modesOf d q t))
+    hears : (q : ℕ) (t : Standing) → decideMessage (dockAt modesOf d q t) (readOutcome (messageBytes (requestMessage r))) ≡ accepts (asking r (dockAt modesOf d q t))
     hears q t =
         ap (decideMessage (dockAt modesOf d q t)) (reads (requestMessage r) good (λ k. omega arith)) ∙ request-turns r least most (dockAt modesOf d q t)
 
-    turned : (x : Decision) (q : ℕ) (t : Standing) → x ≡ turns (asking r (dockAt modesOf d q t)) →
+    asked-now : (x : Decision) (q : ℕ) (t : Standing) → x ≡ accepts (asking r (dockAt modesOf d q t)) →
         (stepOf (dockAt modesOf d q t) x (length out) .dock ≡ dockAt modesOf d (pageThen r q) (Asking r)) × (handedOver (dockAt modesOf d q t) x out gone ≡ gone)
     unfolding stepOf handedOver
-    turned x q t e = (rw e (asking-at modesOf d r q t), rw e)
+    asked-now x q t e = (rw e (asking-at modesOf d r q t), rw e)
 
     pub reach-is : (l : Laptop) (m : Memory) (fate : Fate) (q : ℕ) (t : Standing) (z : ℕ) → isConfirmed fate ≡ false →
         step modesOf (reach out) (standing l m (request (messageBytes (requestMessage r))) fate q t z) ≡
@@ -89,7 +89,7 @@ module _ (modesOf : ℕ → List ℕ) (d : Dock) (out : List ℕ) (room : 28 ≤
             _≡_ {A = System} (record { laptop = l; memory = m; way = clear; fate = handedOver (dockAt modesOf d q t) (decideMessage (dockAt modesOf d q t) (readOutcome (messageBytes (requestMessage r)))) out gone; dock = stepOf (dockAt modesOf d q t) (decideMessage (dockAt modesOf d q t) (readOutcome (messageBytes (requestMessage r)))) (length out) .dock; lost = lostWith f z })
             (standing l m clear gone (pageThen r q) (Asking r) (lostWith f z))
         by f =
-            let x = turned _ q t (hears q t) in
+            let x = asked-now _ q t (hears q t) in
             ap₂ (λ (y : Fate) (e : Dock). record { laptop = l; memory = m; way = clear; fate = y; dock = e; lost = lostWith f z }) (x .1) (x .0)
 
         go : (f : Fate) → isConfirmed f ≡ false →
@@ -102,7 +102,7 @@ module _ (modesOf : ℕ → List ℕ) (d : Dock) (out : List ℕ) (room : 28 ≤
 
   -- policy gives
   pub give-is : (l : Laptop) (m : Memory) (way : Way) (fate : Fate) (q : ℕ) (r : Request) (z : ℕ) (x : Message) (b : Bool) →
-      decideAnswer (dockAt modesOf d q (Asking r)) (Asking r) Give r (brought modesOf Give r) ≡ sends x (dockAt modesOf d q (Sending b)) →
+      decidePolicyAnswer (dockAt modesOf d q (Asking r)) (Asking r) Give r (brought modesOf Give r) ≡ sends x (dockAt modesOf d q (Sending b)) →
       wellShaped x ≡ true →
       step modesOf (answer Give out) (standing l m way fate q (Asking r) z) ≡ standing l m way (coming (messageBytes x)) q (Sending b) z
   unfolding step isFair
@@ -113,7 +113,7 @@ module _ (modesOf : ℕ → List ℕ) (d : Dock) (out : List ℕ) (room : 28 ≤
 
   -- the answer arrives
   abbrev pub wayOf : Laptop → Memory → Way → Message → Way
-  wayOf l m way x = wayAfter (done (message (messageBytes x)) l m []) way
+  wayOf l m way x = wayAfter (effectOf (message (messageBytes x)) l m []) way
 
   pub arrive-is : (l : Laptop) (m : Memory) (way : Way) (q : ℕ) (b : Bool) (z : ℕ) (x : Message) (r : Result) →
       heard l m (readOutcome (messageBytes x)) ≡ r →
@@ -132,26 +132,26 @@ module _ (modesOf : ℕ → List ℕ) (d : Dock) (out : List ℕ) (room : 28 ≤
       ap (λ (x : Dock). record { laptop = l; memory = m; way = way; fate = gone; dock = x; lost = z }) (sent-dock modesOf d old q b)
 
   -- what the dock gives
-  pub identity-given : (q : ℕ) → goodIdentity (d .objects) ≡ true →
-      decideAnswer (dockAt modesOf d q (Asking identityRequest)) (Asking identityRequest) Give identityRequest (brought modesOf Give identityRequest) ≡
+  pub identity-given : (q : ℕ) → goodIdentity (d .extent) ≡ true →
+      decidePolicyAnswer (dockAt modesOf d q (Asking identityRequest)) (Asking identityRequest) Give identityRequest (brought modesOf Give identityRequest) ≡
       sends (identityAnswer d) (dockAt modesOf d q (Sending false))
-  unfolding decideAnswer decidePolicy brought bare giveOther giveIdentity sending
+  unfolding decidePolicyAnswer decidePolicy brought bare giveOther giveIdentity sending
   identity-given q e = rw e
 
   pub page-given : (q : ℕ) → isEmpty (listed d) ≡ false →
-      decideAnswer (dockAt modesOf d q (Asking (discover pdSid svidsCommand))) (Asking (discover pdSid svidsCommand)) Give (discover pdSid svidsCommand) (brought modesOf Give (discover pdSid svidsCommand)) ≡
+      decidePolicyAnswer (dockAt modesOf d q (Asking (discover pdSid svidsCommand))) (Asking (discover pdSid svidsCommand)) Give (discover pdSid svidsCommand) (brought modesOf Give (discover pdSid svidsCommand)) ≡
       sends (pageAnswer (listed d) q) (dockAt modesOf d q (Sending true))
-  unfolding decideAnswer decidePolicy brought bare giveOther givePage sending
+  unfolding decidePolicyAnswer decidePolicy brought bare giveOther givePage sending
   page-given q e = rw e
 
   pub nak-given : (q : ℕ) → isEmpty (listed d) ≡ true →
-      decideAnswer (dockAt modesOf d q (Asking (discover pdSid svidsCommand))) (Asking (discover pdSid svidsCommand)) Give (discover pdSid svidsCommand) (brought modesOf Give (discover pdSid svidsCommand)) ≡
+      decidePolicyAnswer (dockAt modesOf d q (Asking (discover pdSid svidsCommand))) (Asking (discover pdSid svidsCommand)) Give (discover pdSid svidsCommand) (brought modesOf Give (discover pdSid svidsCommand)) ≡
       sends emptyAnswer (dockAt modesOf d q (Sending false))
-  unfolding decideAnswer decidePolicy brought bare giveOther givePage sending
+  unfolding decidePolicyAnswer decidePolicy brought bare giveOther givePage sending
   nak-given q e = rw e
 
   pub modes-given : (q svid : ℕ) → 1 ≤ length (modesOf svid) → length (modesOf svid) ≤ 6 →
-      decideAnswer (dockAt modesOf d q (Asking (discover svid modesCommand))) (Asking (discover svid modesCommand)) Give (discover svid modesCommand) (brought modesOf Give (discover svid modesCommand)) ≡
+      decidePolicyAnswer (dockAt modesOf d q (Asking (discover svid modesCommand))) (Asking (discover svid modesCommand)) Give (discover svid modesCommand) (brought modesOf Give (discover svid modesCommand)) ≡
       sends (modesAnswer modesOf svid) (dockAt modesOf d q (Sending false))
-  unfolding decideAnswer decidePolicy brought giveModes sending
+  unfolding decidePolicyAnswer decidePolicy brought giveModes sending
   modes-given q svid least most = rw (eq-eqb svid svid refl, le-leb 1 (length (modesOf svid)) least, le-leb (length (modesOf svid)) 6 most)

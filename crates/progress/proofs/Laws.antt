@@ -36,8 +36,8 @@ module _ (modesOf : ℕ → List ℕ) (start : System) (meets : Meets modesOf (s
   counted s got r (pages-come p a count most pages come) none some =
       absurd (false≢true (sym none ∙ list-open (listed d) got (open-left modesOf d meets p got most come)))
   counted s got r (modes-come a many h pages come) none some =
-      let c : Complete modesOf d (s .laptop .gathered) (s .laptop .filled) (s .laptop .pages) (s .memory) (r .carried) (s .lost) =
-      subst (λ (x : Candidate). CandidateIs modesOf d x (s .laptop .gathered) (s .laptop .filled) (s .laptop .pages) (s .memory) (r .standing-at) (r .page-at) (r .carried) (s .lost))
+      let c : Complete modesOf d (s .laptop .gathered) (s .laptop .stored) (s .laptop .pages) (s .memory) (r .carried) (s .lost) =
+      subst (λ (x : Candidate). CandidateIs modesOf d x (s .laptop .gathered) (s .laptop .stored) (s .laptop .pages) (s .memory) (r .standing-at) (r .page-at) (r .carried) (s .lost))
       a (r .invariant .candidate-is) in
       (c .same-list, pages, sym pages ∙ c .sum)
 
@@ -91,7 +91,7 @@ module _ (modesOf : ℕ → List ℕ) (start : System) (meets : Meets modesOf (s
         listed-whole (all-came n z a w k) one = list-done (listed d) got z
         listed-whole (pages-come p a count most pages come) one =
             absurd (omega (arith, still-needed modesOf d meets p 0 got come many))
-        listed-whole (modes-come a m h k come) one = list-done (listed d) got (modes-left-list modesOf d meets (after .laptop .filled) got m come)
+        listed-whole (modes-come a m h k come) one = list-done (listed d) got (modes-left-list modesOf d meets (after .laptop .stored) got m come)
 
     -- a candidate is given up only where it has come to 0, or by the ends of 01
     pub ends-only-by : (e : Event) → EndsBy modesOf d e after got

@@ -16,13 +16,13 @@ use Rattle.dock.specs.declared.Standing.{Standing}
 use Rattle.dock.specs.declared.Standing.the-variants.{Ready}
 use Rattle.hearing.specs.Hearing.{Result, heard}
 use Rattle.owner.specs.Owner.{anyEntered, requestMessage, asksNext}
-use Rattle.laptop.specs.Calls.{sends, turnedTo}
+use Rattle.laptop.specs.Calls.{sends, acceptedWith}
 use Rattle.laptop.specs.State.{Memory, memory, opened, identityRequest, identityAsked}
 use Rattle.laptop.specs.declared.Candidate.the-variants.{Absent}
 use Rattle.laptop.specs.declared.Laptop.{Laptop}
 use Rattle.laptop.specs.declared.Told.the-variants.{Nothing as Told·Nothing}
 use Rattle.laptop.specs.declared.Wait.the-variants.{Nothing}
-use Rattle.laptop_laws.specs.Done.{next}
+use Rattle.laptop_laws.specs.Effects.{next}
 use Rattle.laptop_laws.specs.Holding.{Holding, holding}
 use Rattle.laptop_laws.specs.WellFormed.{Lent}
 use Rattle.link.specs.Demand.{Meets, AtRest, Begins, whole, heldWords, Holds}
@@ -106,16 +106,16 @@ module _ (modesOf : ℕ → List ℕ) (start : System) (meets : Meets modesOf (s
     abbrev opening : Result
     opening =
         record {
-          step = turnedTo Told·Nothing (opened (length (take (d .objects) (d .identity))) (identityAsked l));
+          step = acceptedWith Told·Nothing (opened (length (take (d .extent) (d .identity))) (identityAsked l));
           after =
-              memory (replicate 72 0) (m .modes) (padded (take (d .objects) (d .identity))) (m .run) (m .heldSvids) (m .heldModes) (m .heldIdentity)
+              memory (replicate 72 0) (m .modes) (padded (take (d .extent) (d .identity))) (m .run) (m .heldSvids) (m .heldModes) (m .heldIdentity)
               (m .heldRun) (m .entered);
         }
 
     heard-is : heard (identityAsked l) m (readOutcome (messageBytes (identityAnswer d))) ≡ opening
     heard-is =
         ap (heard (identityAsked l) m) (answer-read modesOf d meets identityAck (identity-answer-shaped modesOf d meets all)) ∙
-        hear-fit (identityAsked l) m lent (identityAnswer d) refl refl ∙ identity-heard (identityAsked l) m (take (d .objects) (d .identity))
+        hear-fit (identityAsked l) m lent (identityAnswer d) refl refl ∙ identity-heard (identityAsked l) m (take (d .extent) (d .identity))
 
     abbrev wayThere : Way
     wayThere = wayOf modesOf d out room (identityAsked l) m clear (identityAnswer d)

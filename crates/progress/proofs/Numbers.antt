@@ -8,8 +8,8 @@ use lib.ListN.{length}
 use Rattle.messages.specs.Layout.{Message}
 use Rattle.dock.specs.Data.{listed}
 use Rattle.dock.specs.declared.Dock.{Dock}
-use Rattle.hearing.specs.Hearing.{isOpen}
 use Rattle.owner.specs.Owner.{isAbsent}
+use Rattle.laptop.specs.State.{isOpen}
 use Rattle.laptop.specs.declared.Candidate.the-variants.{Open, Done}
 use Rattle.laptop.specs.declared.Laptop.{Laptop}
 use Rattle.link.specs.Demand.{Meets}
@@ -37,9 +37,9 @@ module _ (modesOf : ℕ → List ℕ) (d : Dock) (meets : Meets modesOf d) (l : 
 
   -- the list is done
   pub done-number : l .candidate ≡ Done → Tells modesOf d meets l got →
-      (needed modesOf d got ≡ length (listed d) - l .filled) × (l .filled < length (listed d))
+      (needed modesOf d got ≡ length (listed d) - l .stored) × (l .stored < length (listed d))
   done-number done-now (none-came e a) = absurd (false≢true (ap isAbsent (sym done-now ∙ a)))
   done-number done-now (all-came n z a w k) = absurd (false≢true (ap isAbsent (sym done-now ∙ a)))
   done-number done-now (pages-come n a same most pages come) = absurd (false≢true (ap isOpen (sym done-now ∙ a)))
   done-number done-now (modes-come a many h pages come) =
-      (omega (arith, still-needed modesOf d meets (length (listed d) / 12 + 1) (l .filled) got come many), h)
+      (omega (arith, still-needed modesOf d meets (length (listed d) / 12 + 1) (l .stored) got come many), h)

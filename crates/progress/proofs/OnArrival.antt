@@ -13,7 +13,7 @@ use Rattle.hearing.specs.Hearing.{Result, isLatePage}
 use Rattle.laptop.specs.declared.Laptop.{Laptop}
 use Rattle.link.specs.Demand.{Meets}
 use Rattle.link.specs.Needed.{answersNeeded, needed, withMessage, newIn}
-use Rattle.unharmed.specs.LastAnswer.{isLastHead}
+use Rattle.unharmed.proofs.LastAnswer.{isLastHead}
 use Rattle.progress.proofs.Missing.{missing-most}
 use Rattle.progress.proofs.Tells.{Tells, needs-some}
 

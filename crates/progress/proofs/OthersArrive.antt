@@ -19,11 +19,11 @@ use Rattle.dock.specs.Data.{listed}
 use Rattle.dock.specs.Dock.{reply}
 use Rattle.dock.specs.declared.Dock.{Dock}
 use Rattle.dock.specs.declared.Standing.{Standing}
-use Rattle.hearing.specs.Answers.{turnedDown}
-use Rattle.hearing.specs.Hearing.{Result, only, fits, isIdle, isOpen, isLatePage, hearAnswer, heard}
-use Rattle.laptop.specs.Calls.{refusedBy, turnedTo, isAwaiting}
+use Rattle.hearing.specs.Answers.{declinedAs}
+use Rattle.hearing.specs.Hearing.{Result, only, fits, isIdle, isLatePage, hearAnswer, heard}
+use Rattle.laptop.specs.Calls.{refusedBy, acceptedWith, isAwaiting}
 use Rattle.owner.specs.Owner.{isAbsent, discover}
-use Rattle.laptop.specs.State.{Memory, ended, dropped, identityRequest}
+use Rattle.laptop.specs.State.{isOpen, Memory, ended, dropped, identityRequest}
 use Rattle.laptop.specs.declared.Candidate.{Candidate}
 use Rattle.laptop.specs.declared.Candidate.the-variants.{Absent, Open, Done}
 use Rattle.laptop.specs.declared.Laptop.{Laptop}
@@ -34,9 +34,10 @@ use Rattle.laptop.specs.declared.Wait.the-variants.{Nothing, Answer}
 use Rattle.laptop_laws.specs.WellFormed.{Listed, CandidateFits, WaitFits, awaitsIdentity, WellFormed}
 use Rattle.link.specs.Demand.{Meets}
 use Rattle.link.specs.Needed.{identityAnswer, emptyAnswer, modesAnswer, listAnswers, missing, needed, isPageAnswer, pagesIn, isListing, isTooMany, isAnswer, isLate, inAll}
-use Rattle.unharmed.specs.LastAnswer.{isLastHead}
+use Rattle.unharmed.proofs.LastAnswer.{isLastHead}
 use Rattle.unharmed.proofs.Arrival.{Arrival}
-use Rattle.unharmed.proofs.Awaited.{with-identity, awaits, fits-is}
+use Rattle.laptop_laws.proofs.Fitting.{fits-is}
+use Rattle.unharmed.proofs.Awaited.{with-identity, awaits}
 use Rattle.unharmed.proofs.Course.{FairAnswer, identityAck, pageAck, modesAck, modeAck, listNak, busyTo, Carried}
 use Rattle.unharmed.proofs.Hears.{hear-fit, hear-late, hear-ignored, identity-heard, identity-busy, svids-busy, svids-nak, modes-more, modes-last, modes-busy, mode-busy, mode-marked}
 use Rattle.unharmed.proofs.Invariant.{messageOf, Gave, Shaped, CandidateIs}
@@ -60,7 +61,7 @@ is-late l h idle open-now is-page = rw (rests (l .wait) idle, open-now, is-page)
     rests (Answer r) e = absurd (false≢true (sym e))
 
 module _ (modesOf : ℕ → List ℕ) (d : Dock) (meets : Meets modesOf d) (l : Laptop) (m : Memory) (q : ℕ) (t : Standing) (z : ℕ) (v : Carried)
-    (formed : WellFormed l m) (candidate : CandidateIs modesOf d (l .candidate) (l .gathered) (l .filled) (l .pages) m t q v z) (got : List Message) where
+    (formed : WellFormed l m) (candidate : CandidateIs modesOf d (l .candidate) (l .gathered) (l .stored) (l .pages) m t q v z) (got : List Message) where
   abbrev list : List ℕ
   list = listed d
 
@@ -91,13 +92,13 @@ module _ (modesOf : ℕ → List ℕ) (d : Dock) (meets : Meets modesOf d) (l : 
         let few : isTooMany list (identityAnswer d ∷ got) ≡ false =
         few-enough list (identityAnswer d ∷ got) (omega (arith, ap pagesIn e)) in
         let last = identity-last modesOf d meets l m q t z v formed candidate shaped gave arrival waits in
-        let pages = with-identity (l .candidate) (l .pages) (l .filled) (m .svids) (awaits l m formed identityRequest waits) .1 in
+        let pages = with-identity (l .candidate) (l .pages) (l .stored) (m .svids) (awaits l m formed identityRequest waits) .1 in
         let less : needed modesOf d (identityAnswer d ∷ got) + 1 ≡ needed modesOf d got =
         subst (λ (g : List Message). needed modesOf d (identityAnswer d ∷ g) + 1 ≡ needed modesOf d g) (sym e) identity-left in
         let come : Come modesOf d meets 0 0 (identityAnswer d ∷ got) =
         subst (λ (g : List Message). Come modesOf d meets 0 0 (identityAnswer d ∷ g)) (sym e) (identity-comes modesOf d meets) in
         let more : 0 < needed modesOf d (identityAnswer d ∷ got) = open-needed modesOf d meets 0 (identityAnswer d ∷ got) (omega arith) come in
-        subst (Comes modesOf d meets l (identityAnswer d) got) (sym (identity-heard l m (take (d .objects) (d .identity))))
+        subst (Comes modesOf d meets l (identityAnswer d) got) (sym (identity-heard l m (take (d .extent) (d .identity))))
         (comes-new modesOf d meets l (identityAnswer d) got _ (is-new (l .wait) list (identityAnswer d) got awaited refl few)
         (added (l .wait) list (identityAnswer d) got awaited few) less (λ x. absurd (false≢true (sym last ∙ x))) (λ x. more)
         (λ x. absurd (false≢true (sym last ∙ x)))
@@ -107,9 +108,9 @@ module _ (modesOf : ℕ → List ℕ) (d : Dock) (meets : Meets modesOf d) (l : 
     identity-arrives (none-came e a) = identity-first e
     identity-arrives (all-came e n a w k) = absurd (false≢true (sym w ∙ ap awaitsIdentity waits))
     identity-arrives (pages-come p a count most pages come) =
-        absurd (false≢true (sym (ap isAbsent a) ∙ ap isAbsent (with-identity (l .candidate) (l .pages) (l .filled) (m .svids) (awaits l m formed identityRequest waits) .0)))
+        absurd (false≢true (sym (ap isAbsent a) ∙ ap isAbsent (with-identity (l .candidate) (l .pages) (l .stored) (m .svids) (awaits l m formed identityRequest waits) .0)))
     identity-arrives (modes-come a s h k come) =
-        absurd (false≢true (sym (ap isAbsent a) ∙ ap isAbsent (with-identity (l .candidate) (l .pages) (l .filled) (m .svids) (awaits l m formed identityRequest waits) .0)))
+        absurd (false≢true (sym (ap isAbsent a) ∙ ap isAbsent (with-identity (l .candidate) (l .pages) (l .stored) (m .svids) (awaits l m formed identityRequest waits) .0)))
 
   -- the modes of an SVID
   module _ (svid : ℕ) (shaped : Shaped modesOf d (modesAck svid)) (gave : Gave modesOf d (modesAck svid) q)
@@ -124,45 +125,45 @@ module _ (modesOf : ℕ → List ℕ) (d : Dock) (meets : Meets modesOf d) (l : 
     all-listed =
         omega (arith, ap length (complete modesOf d meets l m q t z v formed candidate svid shaped gave arrival waits .same-list), length-take (l .gathered .count) (m .svids), formed .lent .svids-size, done-fits modesOf d meets l m q t z v formed candidate svid shaped gave arrival waits .0 .count-fits)
 
-    head-last : isLastHead l (words .head) ≡ eqb (l .filled + 1) (l .gathered .count)
+    head-last : isLastHead l (words .head) ≡ eqb (l .stored + 1) (l .gathered .count)
     head-last = modes-head modesOf d meets l m q t z v formed candidate svid shaped gave arrival waits
 
-    places : l .filled < 72
+    places : l .stored < 72
     places = places-left modesOf d meets l m q t z v formed candidate svid shaped gave arrival waits
 
-    modes-now : 0 < length list → l .filled < length list → l .pages ≡ pagesIn got → Come modesOf d meets pagesInAll (l .filled) got → ComesWith (modesAck svid)
+    modes-now : 0 < length list → l .stored < length list → l .pages ≡ pagesIn got → Come modesOf d meets pagesInAll (l .stored) got → ComesWith (modesAck svid)
     modes-now some h pages come =
         let which = named modesOf d meets l m q t z v formed candidate svid shaped gave arrival waits in
-        let now : Come modesOf d meets pagesInAll (l .filled + 1) (words ∷ got) =
-        subst (λ (s : ℕ). Come modesOf d meets pagesInAll (l .filled + 1) (modesAnswer modesOf s ∷ got)) (sym which)
-        (come-modes modesOf d meets pagesInAll (l .filled) got come h) in
-        let left = still-needed modesOf d meets pagesInAll (l .filled + 1) (words ∷ got) now some in
-        let before = still-needed modesOf d meets pagesInAll (l .filled) got come some in
-        let listless : missing (listAnswers list) (words ∷ got) ≡ 0 = modes-left-list modesOf d meets (l .filled + 1) (words ∷ got) some now in
+        let now : Come modesOf d meets pagesInAll (l .stored + 1) (words ∷ got) =
+        subst (λ (s : ℕ). Come modesOf d meets pagesInAll (l .stored + 1) (modesAnswer modesOf s ∷ got)) (sym which)
+        (come-modes modesOf d meets pagesInAll (l .stored) got come h) in
+        let left = still-needed modesOf d meets pagesInAll (l .stored + 1) (words ∷ got) now some in
+        let before = still-needed modesOf d meets pagesInAll (l .stored) got come some in
+        let listless : missing (listAnswers list) (words ∷ got) ≡ 0 = modes-left-list modesOf d meets (l .stored + 1) (words ∷ got) some now in
         let few : isTooMany list (words ∷ got) ≡ false = done-enough list (words ∷ got) (list-done list (words ∷ got) listless) in
         let awaited : isAnswer (l .wait) words ≡ true =
         is-answer (l .wait) words (ap (λ (w : Wait). fits w (words .head)) waits ∙ same) refl refl in
-        go (ltb (l .filled + 1) (l .gathered .count)) refl now left before listless few awaited
+        go (ltb (l .stored + 1) (l .gathered .count)) refl now left before listless few awaited
       where
         same : fits (Answer (discover svid modesCommand)) (words .head) ≡ true
         same = rw (eq-eqb svid svid refl)
 
-        go : (b : Bool) → ltb (l .filled + 1) (l .gathered .count) ≡ b → Come modesOf d meets pagesInAll (l .filled + 1) (words ∷ got) →
-            needed modesOf d (words ∷ got) ≡ pagesInAll - pagesInAll + (length list - (l .filled + 1)) →
-            needed modesOf d got ≡ pagesInAll - pagesInAll + (length list - l .filled) → missing (listAnswers list) (words ∷ got) ≡ 0 →
+        go : (b : Bool) → ltb (l .stored + 1) (l .gathered .count) ≡ b → Come modesOf d meets pagesInAll (l .stored + 1) (words ∷ got) →
+            needed modesOf d (words ∷ got) ≡ pagesInAll - pagesInAll + (length list - (l .stored + 1)) →
+            needed modesOf d got ≡ pagesInAll - pagesInAll + (length list - l .stored) → missing (listAnswers list) (words ∷ got) ≡ 0 →
             isTooMany list (words ∷ got) ≡ false → isAnswer (l .wait) words ≡ true → ComesWith (modesAck svid)
         go true b now left before listless few awaited =
-            let less = ltb-true (l .filled + 1) (l .gathered .count) b in
-            let last : isLastHead l (words .head) ≡ false = head-last ∙ ne-eqb (l .filled + 1) (l .gathered .count) (λ e. omega arith) in
+            let less = ltb-true (l .stored + 1) (l .gathered .count) b in
+            let last : isLastHead l (words .head) ≡ false = head-last ∙ ne-eqb (l .stored + 1) (l .gathered .count) (λ e. omega arith) in
             subst (Comes modesOf d meets l words got) (sym (modes-more l m svid (modesOf svid) places less))
             (comes-new modesOf d meets l words got _ (is-new (l .wait) list words got awaited refl few) (added (l .wait) list words got awaited few)
             (omega (arith, left, before)) (λ x. absurd (false≢true (sym last ∙ x))) (λ x. omega (arith, left, all-listed))
             (λ x. absurd (false≢true (sym last ∙ x)))
             (modes-come done-now some (omega (arith, all-listed)) (omega (arith, pages)) now))
         go false b now left before listless few awaited =
-            let least = ltb-false (l .filled + 1) (l .gathered .count) b in
-            let end : l .filled + 1 ≡ l .gathered .count = omega (arith, all-listed, h) in
-            let last : isLastHead l (words .head) ≡ true = head-last ∙ eq-eqb (l .filled + 1) (l .gathered .count) end in
+            let least = ltb-false (l .stored + 1) (l .gathered .count) b in
+            let end : l .stored + 1 ≡ l .gathered .count = omega (arith, all-listed, h) in
+            let last : isLastHead l (words .head) ≡ true = head-last ∙ eq-eqb (l .stored + 1) (l .gathered .count) end in
             subst (Comes modesOf d meets l words got) (sym (modes-last l m svid (modesOf svid) places done-now least))
             (comes-new modesOf d meets l words got _ (is-new (l .wait) list words got awaited refl few) (added (l .wait) list words got awaited few)
             (omega (arith, left, before)) (λ x. omega (arith, left, all-listed)) (λ x. absurd (false≢true (sym x ∙ last))) (λ x. refl)
@@ -224,7 +225,7 @@ module _ (modesOf : ℕ → List ℕ) (d : Dock) (meets : Meets modesOf d) (l : 
   module _ (r : Request) (shaped : Shaped modesOf d (busyTo r)) (gave : Gave modesOf d (busyTo r) q) (arrival : Arrival (listed d) t q z (busyTo r) v)
       (waits : l .wait ≡ Answer r) (tells : Tells modesOf d meets l got) where
     busy-comes : (told : Told) (after : Laptop) → Tells modesOf d meets after got →
-        Comes modesOf d meets l (reply r busy []) got (only m (turnedTo told after))
+        Comes modesOf d meets l (reply r busy []) got (only m (acceptedWith told after))
     busy-comes told after tells-then =
         left-alone (reply r busy []) _ (no-answer-busy (l .wait) (reply r busy []) refl)
         (late-awaited (l .wait) list (reply r busy []) got (ap isAwaiting waits))
@@ -233,7 +234,7 @@ module _ (modesOf : ℕ → List ℕ) (d : Dock) (meets : Meets modesOf d) (l : 
     busy-arrives : ComesWith (busyTo r)
     busy-arrives = go (awaits l m formed r waits)
       where
-        go : WaitFits (Answer r) (l .candidate) (l .pages) (l .filled) (m .svids) → ComesWith (busyTo r)
+        go : WaitFits (Answer r) (l .candidate) (l .pages) (l .stored) (m .svids) → ComesWith (busyTo r)
         go (inl f) =
             subst (Comes modesOf d meets l (reply r busy []) got)
             (sym (ap (λ (x : Request). hearAnswer l m (reply x busy [])) (f .0) ∙ identity-busy l m))
@@ -243,14 +244,14 @@ module _ (modesOf : ℕ → List ℕ) (d : Dock) (meets : Meets modesOf d) (l : 
             (sym (ap (λ (x : Request). hearAnswer l m (reply x busy [])) (f .0) ∙ svids-busy l m (f .1)))
             (busy-comes Told·Nothing (ended l) (ended-tells tells))
         go (inr (inr (inl f))) =
-            let fit : Listed (l .gathered) (l .filled) (m .svids) (m .modes) × (l .filled < l .gathered .count) =
-            subst (λ (c : Candidate). CandidateFits c (l .gathered) (l .pages) (l .filled) (m .svids) (m .modes)) (f .1) (formed .candidate-fits) in
+            let fit : Listed (l .gathered) (l .stored) (m .svids) (m .modes) × (l .stored < l .gathered .count) =
+            subst (λ (c : Candidate). CandidateFits c (l .gathered) (l .pages) (l .stored) (m .svids) (m .modes)) (f .1) (formed .candidate-fits) in
             subst (Comes modesOf d meets l (reply r busy []) got)
-            (sym (ap (λ (x : Request). hearAnswer l m (reply x busy [])) (f .0) ∙ modes-busy l m (getD (m .svids) (l .filled) 0) (fit .1)))
+            (sym (ap (λ (x : Request). hearAnswer l m (reply x busy [])) (f .0) ∙ modes-busy l m (getD (m .svids) (l .stored) 0)))
             (busy-comes Told·Nothing (ended l) (ended-tells tells))
         go (inr (inr (inr f))) =
             subst (Comes modesOf d meets l (reply r busy []) got) (sym (mode-busy l m r (f .0)))
-            (busy-comes (turnedDown 3 r) (ended l) (ended-tells tells))
+            (busy-comes (declinedAs 3 r) (ended l) (ended-tells tells))
 
   -- all of them
   answer-arrives : (a : FairAnswer) (shaped : Shaped modesOf d a) (gave : Gave modesOf d a q) (arrival : Arrival (listed d) t q z a v) →
@@ -311,7 +312,7 @@ module _ (modesOf : ℕ → List ℕ) (d : Dock) (meets : Meets modesOf d) (l : 
       go true false is-page idle (pages-come p open-now count most pages come) =
           absurd (false≢true (sym early ∙ is-late l (x .head) idle open-now is-page))
       go true false is-page idle (modes-come done-now some h k come) =
-          alone (late-done (l .wait) list x got (list-done list got (modes-left-list modesOf d meets (l .filled) got some come)))
+          alone (late-done (l .wait) list x got (list-done list got (modes-left-list modesOf d meets (l .stored) got some come)))
 
   -- any of them, whatever is awaited
   pub comes : (a : FairAnswer) (shaped : Shaped modesOf d a) (gave : Gave modesOf d a q) (arrival : Arrival (listed d) t q z a v) →

@@ -20,16 +20,16 @@ use Rattle.taking.proofs.Sizes.{more-fits, ends-fits}
 use Rattle.dock.specs.Data.{listed}
 use Rattle.dock.specs.declared.Dock.{Dock}
 use Rattle.dock.specs.declared.Standing.{Standing}
-use Rattle.hearing.specs.Hearing.{fits, isOpen, hearAnswer}
+use Rattle.hearing.specs.Hearing.{fits, hearAnswer}
 use Rattle.owner.specs.Owner.{discover}
-use Rattle.laptop.specs.State.{Memory, gatheredList}
+use Rattle.laptop.specs.State.{isOpen, Memory, gatheredList}
 use Rattle.laptop.specs.declared.Candidate.the-variants.{Open}
 use Rattle.laptop.specs.declared.Laptop.{Laptop}
 use Rattle.laptop.specs.declared.Wait.the-variants.{Answer}
 use Rattle.laptop_laws.specs.WellFormed.{WellFormed}
 use Rattle.link.specs.Demand.{Meets}
 use Rattle.link.specs.Needed.{pageAnswer, listAnswers, hasCome, missing, needed, pagesIn, isListing, isTooMany, isAnswer}
-use Rattle.unharmed.specs.LastAnswer.{isLastHead}
+use Rattle.unharmed.proofs.LastAnswer.{isLastHead}
 use Rattle.unharmed.proofs.Arrival.{Arrival}
 use Rattle.unharmed.proofs.Course.{pageAck, Carried, At, in-step, lost-one, Taken, grows, again, finishes, last-no}
 use Rattle.unharmed.proofs.Hears.{page-more, page-again, page-fourteen, page-last}
@@ -41,7 +41,7 @@ use Rattle.progress.proofs.Receiving.{list-open, list-done, too-many, f
 use Rattle.progress.proofs.Tells.{Tells, none-came, all-came, pages-come, modes-come}
 
 module _ (modesOf : ℕ → List ℕ) (d : Dock) (meets : Meets modesOf d) (l : Laptop) (m : Memory) (q : ℕ) (t : Standing) (z : ℕ) (v : Carried)
-    (formed : WellFormed l m) (candidate : CandidateIs modesOf d (l .candidate) (l .gathered) (l .filled) (l .pages) m t q v z) (p : ℕ)
+    (formed : WellFormed l m) (candidate : CandidateIs modesOf d (l .candidate) (l .gathered) (l .stored) (l .pages) m t q v z) (p : ℕ)
     (shaped : Shaped modesOf d (pageAck p)) (gave : Gave modesOf d (pageAck p) q) (arrival : Arrival (listed d) t q z (pageAck p) v)
     (waits : l .wait ≡ Answer (discover pdSid svidsCommand)) (got : List Message) where
   abbrev answer : Message
@@ -73,8 +73,8 @@ module _ (modesOf : ℕ → List ℕ) (d : Dock) (meets : Meets modesOf d) (l : 
   fit : l .pages < 200
   fit = open-fits modesOf d meets l m q t z v formed candidate p shaped gave arrival waits .1
 
-  unfilled : l .filled ≡ 0
-  unfilled = open-fits modesOf d meets l m q t z v formed candidate p shaped gave arrival waits .2
+  unstored : l .stored ≡ 0
+  unstored = open-fits modesOf d meets l m q t z v formed candidate p shaped gave arrival waits .2
 
   not-last : isLastHead l (answer .head) ≡ false
   not-last = page-last-no modesOf d meets l m q t z v formed candidate p shaped gave arrival waits
@@ -162,12 +162,12 @@ module _ (modesOf : ℕ → List ℕ) (d : Dock) (meets : Meets modesOf d) (l : 
         subst (Comes modesOf d meets l answer got)
         (sym
         (page-last l m open-now fit (page list p) k e
-        (omega (arith, unfilled, length-append gathered (take k (halves (page list p))), length-take-le k (halves (page list p)) (fits-page .0), gave))))
+        (omega (arith, unstored, length-append gathered (take k (halves (page list p))), length-take-le k (halves (page list p)) (fits-page .0), gave))))
         (comes-new modesOf d meets l answer got _ (is-new (l .wait) list answer got awaited new few) (added (l .wait) list answer got awaited few)
         (omega (arith, left, still-needed modesOf d meets n 0 got come gave)) (λ x. absurd (false≢true (sym not-last ∙ x)))
         (λ x. omega (arith, left, gave)) (λ x. absurd (false≢true (sym not-last ∙ x)))
-        (modes-come refl gave (omega (arith, unfilled, gave)) (sym counted-in)
-        (subst (λ (i : ℕ). Come modesOf d meets pagesInAll i (answer ∷ got)) (sym unfilled) come-now)))
+        (modes-come refl gave (omega (arith, unstored, gave)) (sym counted-in)
+        (subst (λ (i : ℕ). Come modesOf d meets pagesInAll i (answer ∷ got)) (sym unstored) come-now)))
 
     long : (k : ℕ) → gathered ≡ take k list → k ≤ length list → k ≡ n * 12
     long k e h = omega (arith, ap length e, length-take-le k list h, size, count)

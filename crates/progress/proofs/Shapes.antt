@@ -65,20 +65,20 @@ some-svid modesOf d meets i h = above (getD (listed d) i 0) (λ e. sound-no-zero
     above n f = omega arith
 
 module _ (modesOf : ℕ → List ℕ) (d : Dock) (meets : Meets modesOf d) (all : HasAll modesOf d) where
-  identity-size : (3 ≤ length (take (d .objects) (d .identity))) × (length (take (d .objects) (d .identity)) ≤ 6)
+  identity-size : (3 ≤ length (take (d .extent) (d .identity))) × (length (take (d .extent) (d .identity)) ≤ 6)
   unfolding goodIdentity
   identity-size =
-      let least : 3 ≤ d .objects = leb-true 3 (d .objects) (and-left (leb 3 (d .objects)) _ (all .identity-good)) in
-      let most : d .objects ≤ 6 = leb-true (d .objects) 6 (and-right (leb 3 (d .objects)) _ (all .identity-good)) in
-      let size = length-take-le (d .objects) (d .identity) (omega (arith, all .identity-there)) in
+      let least : 3 ≤ d .extent = leb-true 3 (d .extent) (and-left (leb 3 (d .extent)) _ (all .identity-good)) in
+      let most : d .extent ≤ 6 = leb-true (d .extent) 6 (and-right (leb 3 (d .extent)) _ (all .identity-good)) in
+      let size = length-take-le (d .extent) (d .identity) (omega (arith, all .identity-there)) in
       (omega (arith, size), omega (arith, size))
 
   pub identity-answer-shaped : wellShaped (identityAnswer d) ≡ true
   unfolding wellShaped shape fits rowOf countsOf
   identity-answer-shaped =
-      let count : ℕ = length (take (d .objects) (d .identity)) + 1 in
-      let least : leb 4 (length (take (d .objects) (d .identity)) + 1) ≡ true = le-leb 4 (length (take (d .objects) (d .identity)) + 1) (omega (arith, identity-size .0)) in
-      let most : leb (length (take (d .objects) (d .identity)) + 1) 7 ≡ true = le-leb (length (take (d .objects) (d .identity)) + 1) 7 (omega (arith, identity-size .1)) in
+      let count : ℕ = length (take (d .extent) (d .identity)) + 1 in
+      let least : leb 4 (length (take (d .extent) (d .identity)) + 1) ≡ true = le-leb 4 (length (take (d .extent) (d .identity)) + 1) (omega (arith, identity-size .0)) in
+      let most : leb (length (take (d .extent) (d .identity)) + 1) 7 ≡ true = le-leb (length (take (d .extent) (d .identity)) + 1) 7 (omega (arith, identity-size .1)) in
       rw (least, most)
 
   -- the SVID at a place of the list

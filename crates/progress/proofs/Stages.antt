@@ -38,14 +38,14 @@ use Rattle.link.specs.Demand.{Meets}
 use Rattle.link.specs.Exchanges.{HasAll}
 use Rattle.link.specs.Joined.{Way, System}
 use Rattle.link.specs.Needed.{pageAnswer, emptyAnswer, modesAnswer, needed}
-use Rattle.unharmed.specs.LastAnswer.{isLastHead}
+use Rattle.unharmed.proofs.LastAnswer.{isLastHead}
 use Rattle.unharmed.proofs.Arriving.{answer-read}
 use Rattle.unharmed.proofs.AtDock.{Inv, pageThen}
 use Rattle.unharmed.proofs.Course.{FairAnswer, pageAck, modesAck, listNak, Carried, nothing, underWay, sure, arrived, isReady, movesOn, At, in-step, lost-one, Course, even, undecided, early, last-no, moves-more, Taken, grows, again, finishes, taken}
 use Rattle.unharmed.proofs.Hears.{hear-fit, page-more, page-last, svids-nak, modes-more, modes-last}
 use Rattle.unharmed.proofs.Invariant.{messageOf, Shaped, Complete, CandidateIs}
 use Rattle.progress.proofs.Advancing.{Advance, goes-on, ends-with}
-use Rattle.progress.proofs.Clean.{rested, Stage, listing, filling, Clean, rested-inv}
+use Rattle.progress.proofs.Clean.{rested, Stage, listing, storing, Clean, rested-inv}
 use Rattle.progress.proofs.Exchange.{page-given, nak-given, modes-given}
 use Rattle.progress.proofs.Numbers.{open-number, empty-number, done-number}
 use Rattle.progress.proofs.Shapes.{svids-request-shaped, empty-answer-shaped, page-answer-shaped, request-shaped, modes-answer-shaped}
@@ -65,14 +65,14 @@ asks-svids l svids e = rw e
 
 pub asks-modes : (l : Laptop) (svids : List ℕ) → l .candidate ≡ Done →
     asksNext l svids (l .candidate) ≡
-    sends (requestMessage (discover (getD svids (l .filled) 0) modesCommand)) (awaiting (discover (getD svids (l .filled) 0) modesCommand) l)
+    sends (requestMessage (discover (getD svids (l .stored) 0) modesCommand)) (awaiting (discover (getD svids (l .stored) 0) modesCommand) l)
 unfolding asksNext
 asks-modes l svids e = rw e
 
-last-of : (l : Laptop) (svid : ℕ) → l .wait ≡ Answer (discover svid modesCommand) → l .filled + 1 ≡ l .gathered .count →
+last-of : (l : Laptop) (svid : ℕ) → l .wait ≡ Answer (discover svid modesCommand) → l .stored + 1 ≡ l .gathered .count →
     isLastHead l (headFor (discover svid modesCommand) ack) ≡ true
 unfolding isLastHead
-last-of l svid waits e = rw (waits, eq-eqb svid svid refl, eq-eqb (l .filled + 1) (l .gathered .count) e)
+last-of l svid waits e = rw (waits, eq-eqb svid svid refl, eq-eqb (l .stored + 1) (l .gathered .count) e)
 
 some-list : (list : List ℕ) → 0 < length list → isEmpty list ≡ false
 some-list [] h = absurd (omega arith)
@@ -106,8 +106,8 @@ module _ (modesOf : ℕ → List ℕ) (start : System) (meets : Meets modesOf (s
       abbrev request : Request
       request = discover pdSid svidsCommand
 
-      open-fits : Listed (l .gathered) 0 (m .svids) (m .modes) × (l .pages < 200) × (l .filled ≡ 0)
-      open-fits = subst (λ (c : Candidate). CandidateFits c (l .gathered) (l .pages) (l .filled) (m .svids) (m .modes)) open-now (invariant .formed .candidate-fits)
+      open-fits : Listed (l .gathered) 0 (m .svids) (m .modes) × (l .pages < 200) × (l .stored ≡ 0)
+      open-fits = subst (λ (c : Candidate). CandidateFits c (l .gathered) (l .pages) (l .stored) (m .svids) (m .modes)) open-now (invariant .formed .candidate-fits)
 
       abbrev gathered : List ℕ
       gathered = gatheredList l (m .svids)
@@ -117,7 +117,7 @@ module _ (modesOf : ℕ → List ℕ) (start : System) (meets : Meets modesOf (s
 
       -- the dock is in step
       in-step-now : At list gathered (l .pages) p 0
-      in-step-now = go (subst (λ (c : Candidate). CandidateIs modesOf d c (l .gathered) (l .filled) (l .pages) m Ready p nothing 0) open-now (invariant .candidate-is) .1)
+      in-step-now = go (subst (λ (c : Candidate). CandidateIs modesOf d c (l .gathered) (l .stored) (l .pages) m Ready p nothing 0) open-now (invariant .candidate-is) .1)
         where
           go : Course list gathered (l .pages) Ready p nothing 0 → At list gathered (l .pages) p 0
           go (even x y) = x
@@ -160,7 +160,7 @@ module _ (modesOf : ℕ → List ℕ) (start : System) (meets : Meets modesOf (s
             (hears request (pageAck p) _ (page-answer-shaped list p) refl refl
             (page-last (awaiting request l) m open-now (omega (arith, few, before .1)) (page list p) k e
             (omega (arith, open-fits .2, length-append gathered (take k values), length-take-le k values (fit .0), some))))
-            refl refl refl (filling refl)
+            refl refl refl (storing refl)
             (λ t. let after = done-number modesOf d meets _ _ refl t in
             (omega (arith, after .0, before .0, open-fits .2), omega (arith, after .0, open-fits .2, some)))
 
@@ -193,62 +193,62 @@ module _ (modesOf : ℕ → List ℕ) (start : System) (meets : Meets modesOf (s
 
     -- modes are missing
     module _ (done-now : l .candidate ≡ Done) where
-      done-fits : Listed (l .gathered) (l .filled) (m .svids) (m .modes) × (l .filled < l .gathered .count)
-      done-fits = subst (λ (c : Candidate). CandidateFits c (l .gathered) (l .pages) (l .filled) (m .svids) (m .modes)) done-now (invariant .formed .candidate-fits)
+      done-fits : Listed (l .gathered) (l .stored) (m .svids) (m .modes) × (l .stored < l .gathered .count)
+      done-fits = subst (λ (c : Candidate). CandidateFits c (l .gathered) (l .pages) (l .stored) (m .svids) (m .modes)) done-now (invariant .formed .candidate-fits)
 
-      complete : Complete modesOf d (l .gathered) (l .filled) (l .pages) m nothing 0
-      complete = subst (λ (c : Candidate). CandidateIs modesOf d c (l .gathered) (l .filled) (l .pages) m Ready p nothing 0) done-now (invariant .candidate-is)
+      complete : Complete modesOf d (l .gathered) (l .stored) (l .pages) m nothing 0
+      complete = subst (λ (c : Candidate). CandidateIs modesOf d c (l .gathered) (l .stored) (l .pages) m Ready p nothing 0) done-now (invariant .candidate-is)
 
       all-listed : length list ≡ l .gathered .count
       all-listed =
           omega (arith, ap length (complete .same-list), length-take (l .gathered .count) (m .svids), invariant .formed .lent .svids-size, done-fits .0 .count-fits)
 
-      before-modes : (needed modesOf d got ≡ length list - l .filled) × (l .filled < length list)
+      before-modes : (needed modesOf d got ≡ length list - l .stored) × (l .stored < length list)
       before-modes = done-number modesOf d meets l got done-now (clean .tells-so)
 
       abbrev svid : ℕ
-      svid = getD (m .svids) (l .filled) 0
+      svid = getD (m .svids) (l .stored) 0
 
-      named : getD list (l .filled) 0 ≡ svid
+      named : getD list (l .stored) 0 ≡ svid
       named =
-          ap (λ (x : List ℕ). getD x (l .filled) 0) (sym (complete .same-list)) ∙ getD-take (l .gathered .count) (m .svids) (l .filled) 0 (done-fits .1)
+          ap (λ (x : List ℕ). getD x (l .stored) 0) (sym (complete .same-list)) ∙ getD-take (l .gathered .count) (m .svids) (l .stored) 0 (done-fits .1)
 
       abbrev asked : Request
       asked = discover svid modesCommand
 
       asked-shaped : wellShaped (requestMessage asked) ≡ true
       asked-shaped =
-          subst (λ (s : ℕ). wellShaped (requestMessage (discover s modesCommand)) ≡ true) named (request-shaped modesOf d meets all (l .filled) (before-modes .1))
+          subst (λ (s : ℕ). wellShaped (requestMessage (discover s modesCommand)) ≡ true) named (request-shaped modesOf d meets all (l .stored) (before-modes .1))
 
       answer-shaped : wellShaped (modesAnswer modesOf svid) ≡ true
-      answer-shaped = subst (λ (s : ℕ). wellShaped (modesAnswer modesOf s) ≡ true) named (modes-answer-shaped modesOf d meets all (l .filled) (before-modes .1))
+      answer-shaped = subst (λ (s : ℕ). wellShaped (modesAnswer modesOf s) ≡ true) named (modes-answer-shaped modesOf d meets all (l .stored) (before-modes .1))
 
       fits-answer : fits (Answer asked) (modesAnswer modesOf svid .head) ≡ true
       fits-answer = rw (eq-eqb svid svid refl)
 
       some-modes : 1 ≤ length (modesOf svid)
-      some-modes = subst (λ (s : ℕ). 1 ≤ length (modesOf s)) named (all .some-modes (l .filled) (before-modes .1))
+      some-modes = subst (λ (s : ℕ). 1 ≤ length (modesOf s)) named (all .some-modes (l .stored) (before-modes .1))
 
       few-modes : length (modesOf svid) ≤ 6
-      few-modes = subst (λ (s : ℕ). length (modesOf s) ≤ 6) named (all .few-modes (l .filled) (before-modes .1))
+      few-modes = subst (λ (s : ℕ). length (modesOf s) ≤ 6) named (all .few-modes (l .stored) (before-modes .1))
 
-      places : l .filled < 72
+      places : l .stored < 72
       places = omega (arith, done-fits .1, done-fits .0 .count-fits)
 
-      filled-advances : l .filled + 1 < l .gathered .count → Advances
+      stored-advances : l .stored + 1 < l .gathered .count → Advances
       unfolding pageThen
-      filled-advances less =
+      stored-advances less =
           goes-on modesOf start meets old base out room l m way p got clean asked (awaiting asked l) (asks-modes l (m .svids) done-now) refl refl
           asked-shaped (omega arith) (omega arith) (modesAnswer modesOf svid) false (modes-given modesOf d out room p svid some-modes few-modes)
           answer-shaped _
           (hears asked (modesAck svid) _ answer-shaped refl fits-answer (modes-more (awaiting asked l) m svid (modesOf svid) places less))
-          refl refl refl (filling done-now)
+          refl refl refl (storing done-now)
           (λ t. let after = done-number modesOf d meets _ _ done-now t in
           (omega (arith, after .0, before-modes .0, before-modes .1), omega (arith, after .0, all-listed)))
 
-      last-filled : l .gathered .count ≤ l .filled + 1 → Advances
+      last-stored : l .gathered .count ≤ l .stored + 1 → Advances
       unfolding pageThen
-      last-filled least =
+      last-stored least =
           ends-with modesOf start meets old base out room l m way p got clean asked (awaiting asked l) (asks-modes l (m .svids) done-now) refl refl
           asked-shaped (omega arith) (omega arith) (modesAnswer modesOf svid) false (modes-given modesOf d out room p svid some-modes few-modes)
           answer-shaped _
@@ -259,16 +259,16 @@ module _ (modesOf : ℕ → List ℕ) (start : System) (meets : Meets modesOf (s
           is-last : isLastHead (awaiting asked l) (modesAnswer modesOf svid .head) ≡ true
           is-last = last-of (awaiting asked l) svid refl (omega (arith, done-fits .1))
 
-      filling-advances : Advances
-      filling-advances = go (ltb (l .filled + 1) (l .gathered .count)) refl
+      storing-advances : Advances
+      storing-advances = go (ltb (l .stored + 1) (l .gathered .count)) refl
         where
-          go : (b : Bool) → ltb (l .filled + 1) (l .gathered .count) ≡ b → Advances
-          go true b = filled-advances (ltb-true (l .filled + 1) (l .gathered .count) b)
-          go false b = last-filled (ltb-false (l .filled + 1) (l .gathered .count) b)
+          go : (b : Bool) → ltb (l .stored + 1) (l .gathered .count) ≡ b → Advances
+          go true b = stored-advances (ltb-true (l .stored + 1) (l .gathered .count) b)
+          go false b = last-stored (ltb-false (l .stored + 1) (l .gathered .count) b)
 
     pub advances : Advances
     advances = go (clean .stage)
       where
         go : Stage modesOf d meets old base out room l p → Advances
         go (listing open-now count) = listing-advances open-now count
-        go (filling done-now) = filling-advances done-now
+        go (storing done-now) = storing-advances done-now

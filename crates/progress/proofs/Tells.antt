@@ -24,11 +24,11 @@ module _ (modesOf : ℕ → List ℕ) (d : Dock) (meets : Meets modesOf d) where
         l .pages ≡ pagesIn got → Tells l got
     pages-come : (p : ℕ) → l .candidate ≡ Open → l .gathered .count ≡ p * 12 → p * 12 ≤ length (listed d) → l .pages ≡ pagesIn got →
         Come modesOf d meets p 0 got → Tells l got
-    modes-come : l .candidate ≡ Done → 0 < length (listed d) → l .filled < length (listed d) → l .pages ≡ pagesIn got →
-        Come modesOf d meets (length (listed d) / 12 + 1) (l .filled) got → Tells l got
+    modes-come : l .candidate ≡ Done → 0 < length (listed d) → l .stored < length (listed d) → l .pages ≡ pagesIn got →
+        Come modesOf d meets (length (listed d) / 12 + 1) (l .stored) got → Tells l got
 
   -- a laptop with the same candidate, of which no less is known
-  pub tells-same : (l l′ : Laptop) (got : List Message) → l′ .candidate ≡ l .candidate → l′ .gathered ≡ l .gathered → l′ .filled ≡ l .filled →
+  pub tells-same : (l l′ : Laptop) (got : List Message) → l′ .candidate ≡ l .candidate → l′ .gathered ≡ l .gathered → l′ .stored ≡ l .stored →
       l′ .pages ≡ l .pages → (awaitsIdentity (l .wait) ≡ false → awaitsIdentity (l′ .wait) ≡ false) → Tells l got → Tells l′ got
   tells-same l l′ got c g f p w (none-came e a) = none-came e (c ∙ a)
   tells-same l l′ got c g f p w (all-came e n a i k) = all-came e n (c ∙ a) (w i) (p ∙ k)
@@ -83,7 +83,7 @@ module _ (modesOf : ℕ → List ℕ) (d : Dock) (meets : Meets modesOf d) where
   finished-absent l got n (all-came e z a w k) = a
   finished-absent l got n (pages-come p a count most pages come) = absurd (omega (arith, open-needed p got most come))
   finished-absent l got n (modes-come a some h k come) =
-      absurd (omega (arith, still-needed modesOf d meets (length (listed d) / 12 + 1) (l .filled) got come some))
+      absurd (omega (arith, still-needed modesOf d meets (length (listed d) / 12 + 1) (l .stored) got come some))
 
   pub finished-pages : (l : Laptop) (got : List Message) → needed modesOf d got ≡ 0 → Tells l got → l .pages ≡ pagesIn got
   finished-pages l got n (none-came e a) = absurd (omega (arith, needs-some, ap (needed modesOf d) e))

@@ -129,12 +129,12 @@ pub whole-not : (l : Laptop) → OneOf (0 ∷ 1 ∷ []) (tagOf the-type (l .cand
 unfolding isWhole
 whole-not l k = go (l .candidate) k
   where
-    go : (s : Candidate) → OneOf (0 ∷ 1 ∷ []) (tagOf the-type s) → false ≡ (isDone s && leb (l .gathered .count) (l .filled))
+    go : (s : Candidate) → OneOf (0 ∷ 1 ∷ []) (tagOf the-type s) → false ≡ (isDone s && leb (l .gathered .count) (l .stored))
     go Absent o = refl
     go Open o = refl
     go Done o = absurd (miss (0 ∷ 1 ∷ []) 2 tt o)
 
-pub whole-done : (l : Laptop) → l .candidate ≡ Done → leb (l .gathered .count) (l .filled) ≡ isWhole l
+pub whole-done : (l : Laptop) → l .candidate ≡ Done → leb (l .gathered .count) (l .stored) ≡ isWhole l
 unfolding isWhole
 whole-done l e = rw e
 

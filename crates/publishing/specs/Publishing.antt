@@ -1,10 +1,13 @@
 -- A candidate that is whole replaces the held catalogue (01, "The laptop end").
+use mathlib.Core.Path.{_≡_}
 use Prim.Native.Nat.{ℕ, suc, _/_, _%_}
 use mathlib.Core.Bool.{Bool, true, false, cond, _&&_}
 use mathlib.Core.List.{List, [], _∷_}
 use lib.Dec.{leb, ltb}
-use lib.ListN.{getD, set}
+use lib.ListN.{getD, take, set}
+use Rattle.laws.specs.Lent.{Lent, lent, left}
 use Rattle.laptop.specs.Catalogue.{modesEach}
+use Rattle.laptop.specs.State.{published}
 use Rattle.laptop.specs.declared.Candidate.{Candidate}
 use Rattle.laptop.specs.declared.Candidate.the-variants.{Absent, Open, Done}
 use Rattle.laptop.specs.declared.Laptop.{Laptop}
@@ -17,7 +20,7 @@ isDone Open = false
 isDone Done = true
 
 unfoldable pub isWhole : Laptop → Bool
-isWhole l = isDone (l .candidate) && leb (l .gathered .count) (l .filled)
+isWhole l = isDone (l .candidate) && leb (l .gathered .count) (l .stored)
 
 -- word k of a run is a mode of its SVID
 unfoldable pub isMode : List ℕ → ℕ → Bool
@@ -35,3 +38,9 @@ copiedTo modes run k words = cond (isMode modes k) (set words k (getD run k 0)) 
 -- publishing replaces the held catalogue at once and leaves no candidate
 abbrev pub withLaptop : Laptop → Step → Step
 withLaptop l s = record { refusal = s .refusal; length = s .length; told = s .told; laptop = l }
+
+-- what publishing promises: the step, and the held arrays and run with the candidate's
+abbrev pub Publishes : Step → List ℕ → List ℕ → List ℕ → List ℕ → Lent (List ℕ) → Lent (List ℕ) → Lent (List ℕ) → Lent (List ℕ) → Step → Type 0
+Publishes before svids modes identity run heldSvids heldModes heldIdentity heldRun step =
+    (step ≡ withLaptop (published (before .laptop)) before) × (left heldSvids ≡ svids) × (left heldModes ≡ modes) × (left heldIdentity ≡ identity) ×
+    (left heldRun ≡ copied (take (before .laptop .gathered .count) modes) run 0 (lent heldRun))

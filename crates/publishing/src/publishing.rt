@@ -2,7 +2,7 @@
 ghost use mathlib.Core.Path.{_≡_};
 ghost use Prim.Native.Nat.{_≤_};
 ghost use lib.ListN.{length, getD, take};
-ghost use Rattle.publishing.specs.Publishing.{isWhole, isMode, copied, copiedTo, withLaptop};
+ghost use Rattle.publishing.specs.Publishing.{isWhole, isMode, copied, copiedTo, Publishes};
 ghost use Rattle.laptop.specs.State.{published as State·published};
 use laptop::Candidate;
 use laptop::Held;
@@ -10,7 +10,7 @@ use laptop::Laptop;
 use laptop::MODES_EACH;
 use laptop::Step;
 use laptop::Wait;
-use laptop::set_at;
+use laptop::number_at;
 
 fn published(laptop: Laptop) -> Laptop
     ensures { λ r. ⌜ r ≡ State·published laptop ⌝ }
@@ -32,14 +32,14 @@ pub fn is_whole(laptop: Laptop) -> bool
     let Candidate::Done = candidate else {
         return false;
     };
-    laptop.gathered.count <= laptop.filled
+    laptop.gathered.count <= laptop.stored
 }
 
 // Word k of a run is a mode if its place in its SVID's six words is below the number of modes.
 fn is_mode(modes: &[u8], k: usize) -> bool
     ensures { λ r. ⌜ r ≡ isMode (now (modes .entry)) k ⌝ }
 {
-    k % MODES_EACH < (set_at(modes, k / MODES_EACH) as usize)
+    k % MODES_EACH < (number_at(modes, k / MODES_EACH) as usize)
 }
 
 // Word k of a run, and 0 past its end.
@@ -97,7 +97,7 @@ pub fn publish(
     held_identity: &mut [u32; 6],
     held_run: &mut [u32],
 ) -> Step
-    ensures { λ r. ⌜ (r ≡ withLaptop (State·published (step .laptop)) step) × (now («held_svids» .exit) ≡ now (svids .entry)) × (now («held_modes» .exit) ≡ now (modes .entry)) × (now («held_identity» .exit) ≡ now (identity .entry)) × (now («held_run» .exit) ≡ copied (take (step .laptop .gathered .count) (now (modes .entry))) (now (run .entry)) 0 (now («held_run» .entry))) ⌝ }
+    ensures { λ r. ⌜ Publishes step (now (svids .entry)) (now (modes .entry)) (now (identity .entry)) (now (run .entry)) «held_svids» «held_modes» «held_identity» «held_run» r ⌝ }
 {
     let laptop = step.laptop;
     *held_svids = *svids;

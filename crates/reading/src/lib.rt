@@ -2,14 +2,12 @@
 mod object;
 
 ghost use mathlib.Core.Path.{_≡_};
-ghost use mathlib.Core.List.{List, [], _∷_};
-ghost use lib.ListN.{getD};
 ghost use Rattle.laws.specs.Lines.{firstLine};
-ghost use Rattle.messages.specs.Layout.{objectsOf, headOf};
-ghost use Rattle.messages.specs.Reading.{headerLines, objectsIn, readOutcome, shown, answerNumber};
+ghost use Rattle.messages.specs.Layout.{headOf};
+ghost use Rattle.messages.specs.Reading.{headerLines, objectsIn, readOutcome, shown, readNumber};
 ghost use Rattle.messages.specs.Reading.{refused as Outcome·refused};
-use messages::Answer;
 use messages::Head;
+use messages::ReadAs;
 use messages::Reading;
 use messages::shape;
 use object::object_at;
@@ -45,7 +43,7 @@ fn refused(number: u8) -> Reading
     ensures { λ r. ⌜ r ≡ shown (Outcome·refused number) ⌝ }
 {
     Reading {
-        answer: Answer::Refused(number),
+        outcome: ReadAs::Refused(number),
         objects: [0; 6],
     }
 }
@@ -83,17 +81,17 @@ pub fn read(bytes: &[u8]) -> Reading
         return refused(number);
     }
     Reading {
-        answer: Answer::Message(head_of(header), (n / 4 - 1) as u8),
+        outcome: ReadAs::Message(head_of(header), (n / 4 - 1) as u8),
         objects: objects_in(bytes),
     }
 }
 
 // The refusal number of an answer, 0 for a message.
-pub fn number(answer: Answer) -> u8
-    ensures { λ r. ⌜ r ≡ answerNumber answer ⌝ }
+pub fn number(outcome: ReadAs) -> u8
+    ensures { λ r. ⌜ r ≡ readNumber outcome ⌝ }
 {
-    match answer {
-        Answer::Message(_, _) => 0,
-        Answer::Refused(number) => number,
+    match outcome {
+        ReadAs::Message(_, _) => 0,
+        ReadAs::Refused(number) => number,
     }
 }

@@ -10,11 +10,11 @@ use dock::refused;
 use dock::send_bare;
 use dock::standing_at;
 use messages::ATTENTION;
-use messages::Answer;
 use messages::EXIT;
 use messages::IDENTITY;
 use messages::NAK;
 use messages::REQ;
+use messages::ReadAs;
 use messages::Request;
 use messages::request_of;
 
@@ -49,9 +49,9 @@ pub fn message(dock: Dock, bytes: &[u8], out: &mut [u8]) -> Step
     ensures { λ r. ⌜ Stepped dock (decideMessage dock (readOutcome (now (bytes .entry)))) (now (out .entry)) r (now (out .exit)) ⌝ }
 {
     let reading = reading::read(bytes);
-    let answer = reading.answer;
-    let Answer::Message(head, _) = answer else {
-        return refused(reading::number(answer), dock);
+    let outcome = reading.outcome;
+    let ReadAs::Message(head, _) = outcome else {
+        return refused(reading::number(outcome), dock);
     };
     if head.kind != REQ {
         return refused(6, dock);

@@ -4,9 +4,12 @@ use libc::STDOUT_FILENO;
 // A proved loop has to end, and nothing says that the input does. So after this many answers the input counts as ended, and after this many streams.
 pub const MOST: u64 = 1000000;
 
-// What became of the vector or event that was to come next.
+// What became of the vector or event that was to come next. Of the programs that read several streams, a new one may stand in its place, or one that
+// begins badly.
 pub enum Turn {
     Answered,
+    NewStream,
+    BadStart,
     Ended,
     Unknown,
     Cut,

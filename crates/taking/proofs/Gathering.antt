@@ -1,8 +1,8 @@
 -- Gathering a list page by page: what taking each page gives.
-use mathlib.Core.Path.{_≡_, refl, ap, sym, _∙_}
+use mathlib.Core.Path.{_≡_, refl, ap, ap₂, sym, _∙_}
 use mathlib.Core.Bool.{Bool, true, false, cond, not, _&&_, _||_, false≢true}
 use mathlib.Core.List.{List, [], _∷_, _++_, append-nil}
-use Prim.Native.Nat.{ℕ, zero, suc, _+_, _*_, _-_, _%_, _^_, _<_, _≤_}
+use Prim.Native.Nat.{ℕ, suc, _+_, _*_, _-_, _%_, _^_, _<_, _≤_}
 use native.Mathlib.Omega.{arith}
 use lib.Dec.{leb, eqb}
 use lib.ListN.{length, getD, take, drop, take-append-drop, length-append, length-take, length-drop, length-replicate, List·getD-eq-default}
@@ -11,7 +11,7 @@ use borrow.Author.Tests.{eq-eqb, ne-eqb, leb-true, ltb-true, ltb-false, eqb-true
 use Rattle.laws.specs.Bounded.{Below}
 use Rattle.laws.proofs.Lines.{and-left, and-right}
 use Rattle.pages.specs.Lists.{isIn, soundList}
-use Rattle.pages.specs.Pages.{remaining, halves, page, isLast, ending, readOff, NoZero}
+use Rattle.pages.specs.Pages.{remaining, halves, page, isLast, ending, readOff}
 use Rattle.taking.specs.Taking.{sameList, isRepeat, before, isFull, allNew, adds, nothing, verdict}
 use Rattle.taking.specs.declared.Verdict.the-variants.{Repeat, More, Ends}
 use Rattle.taking.proofs.Judging.{same-length, verdict-repeat, verdict-more, verdict-ending, repeat-same, full-whole, adds-new, ending-last, ending-adds}
@@ -19,20 +19,31 @@ use Rattle.pages.proofs.Making.{append-zeros-at}
 use Rattle.pages.proofs.Laws.{page-parts, read-page}
 use Rattle.pages.proofs.Scanning.{sound-no-zero}
 
--- a list is the same as itself, and as no other
+-- a list is told the same as itself, and as no other
+pub same-lists : (a b : List ℕ) → sameList a b ≡ true → a ≡ b
+unfolding sameList
+same-lists [] [] e = refl
+same-lists [] (y ∷ b) e = absurd (false≢true e)
+same-lists (x ∷ a) [] e = absurd (false≢true e)
+same-lists (x ∷ a) (y ∷ b) e =
+    ap₂ (λ (z : ℕ) (c : List ℕ). z ∷ c) (eqb-true x y (and-left (eqb x y) _ e)) (same-lists a b (and-right (eqb x y) _ e))
+
 pub same-self : (l : List ℕ) → sameList l l ≡ true
 unfolding sameList
 same-self [] = refl
 same-self (x ∷ l) = rw (eq-eqb x x refl) (same-self l)
 
--- the same full page again adds nothing
-pub repeat-again : (l v : List ℕ) → length v ≡ 12 → verdict (l ++ v) v ≡ Repeat
-repeat-again l v e =
+-- the last twelve gathered are a repeat
+pub repeats-last : (l v : List ℕ) → length v ≡ 12 → isRepeat (l ++ v) v ≡ true
+repeats-last l v e =
     let size : length (l ++ v) ≡ length l + 12 = omega (arith, length-append l v) in
     let start : length (l ++ v) - 12 ≡ length l = omega arith in
     let last : drop (length (l ++ v) - 12) (l ++ v) ≡ v = ap (λ (n : ℕ). drop n (l ++ v)) start ∙ drop-at l v (length l) refl in
-    sym (verdict-repeat (l ++ v) v
-    (sym (repeat-same (l ++ v) v (omega arith)) ∙ ap (λ (x : List ℕ). sameList x v) last ∙ same-self v))
+    sym (repeat-same (l ++ v) v (omega arith)) ∙ ap (λ (x : List ℕ). sameList x v) last ∙ same-self v
+
+-- the same full page again adds nothing
+pub repeat-again : (l v : List ℕ) → length v ≡ 12 → verdict (l ++ v) v ≡ Repeat
+repeat-again l v e = sym (verdict-repeat (l ++ v) v (repeats-last l v e))
 
 -- what a sound list says of its parts
 pub or-none : (a b : Bool) → (a || b) ≡ false → (a ≡ false) × (b ≡ false)

@@ -11,8 +11,8 @@ use borrow.Author.Tests.{ne-eqb, eqb-true, eqb-false, not-true}
 use Rattle.laws.proofs.Lines.{and-left, and-right}
 use Rattle.pages.specs.Lists.{isIn, soundList}
 use Rattle.pages.specs.Pages.{readOff, NoZero}
-use Rattle.taking.specs.Taking.{isRepeat, before, isFull, isEnding, allNew, adds, nothing, endingVerdict, verdict}
-use Rattle.taking.specs.declared.Verdict.the-variants.{Bad, Repeat, More, Ends}
+use Rattle.taking.specs.Taking.{isRepeat, before, isFull, isEnding, allNew, adds, nothing, bad, repeats, full, ends, judgedEnding, shown, endingVerdict, verdict}
+use Rattle.taking.specs.declared.Verdict.the-variants.{More, Ends}
 use Rattle.taking.proofs.Gathering.{or-none, eqb-other}
 use Rattle.taking.proofs.Judging.{take-before}
 use Rattle.taking.proofs.Sizes.{isMore, endsWith, isEnds, ending-not-more}
@@ -49,7 +49,7 @@ new-sound (x ∷ l) w s e n =
     (new-sound l w (and-right (not (isIn x l)) (soundList l) b) (new .1) n)
 
 -- values up to the first zero are no zeros
-read-no-zero : (v : List ℕ) → NoZero (readOff v)
+pub read-no-zero : (v : List ℕ) → NoZero (readOff v)
 unfolding readOff
 read-no-zero [] = λ k h z. omega arith
 read-no-zero (x ∷ v) = go (eqb x 0) refl (read-no-zero v)
@@ -59,14 +59,14 @@ read-no-zero (x ∷ v) = go (eqb x 0) refl (read-no-zero v)
     go false e n zero h z = eqb-false x 0 e z
     go false e n (suc k) h z = n k (omega arith) z
 
-full-read : (v : List ℕ) → isFull v ≡ true → readOff v ≡ v
+pub full-read : (v : List ℕ) → isFull v ≡ true → readOff v ≡ v
 unfolding isFull
 full-read v e =
     let size = eqb-true (length v) 12 (and-left (eqb (length v) 12) (eqb (before v) 12) e) in
     let all = eqb-true (before v) 12 (and-right (eqb (length v) 12) (eqb (before v) 12) e) in
     sym (take-before v) ∙ take-all (before v) v (omega (arith, size, all))
 
-adds-all-new : (l v : List ℕ) → adds l v ≡ true → allNew l v ≡ true
+pub adds-all-new : (l v : List ℕ) → adds l v ≡ true → allNew l v ≡ true
 unfolding adds
 adds-all-new l v e = and-right (leb (length l + length v) 72) (allNew l v) e
 
@@ -78,10 +78,10 @@ some-listed (suc n) b k e s = omega arith
 module _ (l v : List ℕ) (sound : soundList l ≡ true) where
   -- a full page that is taken
   pub more-sound : verdict l v ≡ More → soundList (l ++ v) ≡ true
-  unfolding verdict
+  unfolding verdict endingVerdict
   more-sound e = go (isRepeat l v) (isFull v) (adds l v) refl refl (ap isMore e)
     where
-      go : (r f a : Bool) → isFull v ≡ f → adds l v ≡ a → isMore (cond r Repeat (cond f (cond a More Bad) (endingVerdict l v))) ≡ true →
+      go : (r f a : Bool) → isFull v ≡ f → adds l v ≡ a → isMore (shown (cond r repeats (cond f (cond a (full v) bad) (judgedEnding l v)))) ≡ true →
           soundList (l ++ v) ≡ true
       go true f a ef ea h = absurd (false≢true h)
       go false true true ef ea h =
@@ -97,7 +97,7 @@ module _ (l v : List ℕ) (sound : soundList l ≡ true) where
   ending-sound k e = go (isEnding v && (not (nothing (length l) (before v)) && adds l (readOff v))) refl (ap isEnds e) (ap endsWith e)
     where
       go : (t : Bool) → (isEnding v && (not (nothing (length l) (before v)) && adds l (readOff v))) ≡ t →
-          isEnds (cond t (Ends (before v)) Bad) ≡ true → endsWith (cond t (Ends (before v)) Bad) ≡ k →
+          isEnds (shown (cond t (ends (readOff v)) bad)) ≡ true → endsWith (shown (cond t (ends (readOff v)) bad)) ≡ k →
           (soundList (l ++ take k v) ≡ true) × (0 < length l + k)
       go true et h s =
           let rest = and-right (isEnding v) _ et in
@@ -110,10 +110,10 @@ module _ (l v : List ℕ) (sound : soundList l ≡ true) where
       go false et h s = absurd (false≢true h)
 
   pub ends-sound : (k : ℕ) → verdict l v ≡ Ends k → (soundList (l ++ take k v) ≡ true) × (0 < length l + k)
-  unfolding verdict
+  unfolding verdict endingVerdict
   ends-sound k e = go (isRepeat l v) (isFull v) (adds l v) e
     where
-      go : (r f a : Bool) → cond r Repeat (cond f (cond a More Bad) (endingVerdict l v)) ≡ Ends k →
+      go : (r f a : Bool) → shown (cond r repeats (cond f (cond a (full v) bad) (judgedEnding l v))) ≡ Ends k →
           (soundList (l ++ take k v) ≡ true) × (0 < length l + k)
       go true f a h = absurd (false≢true (ap isEnds h))
       go false true true h = absurd (false≢true (ap isEnds h))

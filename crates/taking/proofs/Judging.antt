@@ -2,7 +2,7 @@
 use mathlib.Core.Path.{_≡_, refl, ap, ap₂, sym, _∙_}
 use mathlib.Core.Bool.{Bool, true, false, cond, not, _&&_}
 use mathlib.Core.List.{List, [], _∷_}
-use Prim.Native.Nat.{ℕ, zero, suc, _+_, _-_, _<_, _≤_}
+use Prim.Native.Nat.{ℕ, suc, _+_, _-_, _<_, _≤_}
 use native.Mathlib.Omega.{arith}
 use lib.Dec.{leb, eqb}
 use lib.ListN.{length, getD, take, drop, drop-of-length-le}
@@ -171,7 +171,7 @@ module _ (l v : List ℕ) where
   verdict-clashes r f a = rw (r, f, a)
 
   pub verdict-ending : isRepeat l v ≡ false → isFull v ≡ false → endingVerdict l v ≡ verdict l v
-  unfolding verdict
+  unfolding verdict endingVerdict
   verdict-ending r f = rw (r, f)
 
 pub before-most : (v : List ℕ) → before v ≤ length v

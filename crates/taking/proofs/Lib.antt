@@ -3,3 +3,5 @@ pub mod Gathering
 pub mod Growing
 pub mod Judging
 pub mod Sizes
+pub mod Tight
+pub mod Words

@@ -3,7 +3,7 @@ use Prim.Native.Nat.{ℕ, _+_, _-_}
 use mathlib.Core.Bool.{Bool, true, false, cond, not, _&&_}
 use mathlib.Core.List.{List, [], _∷_}
 use lib.Dec.{leb, eqb}
-use lib.ListN.{length, getD, drop}
+use lib.ListN.{length, getD, take, drop}
 use Rattle.pages.specs.Lists.{mostSvids, isIn}
 use Rattle.pages.specs.Pages.{perPage, readOff}
 use Rattle.taking.specs.declared.Verdict.{Verdict}
@@ -46,12 +46,52 @@ adds list values = leb (length list + length values) mostSvids && allNew list va
 abbrev pub nothing : ℕ → ℕ → Bool
 nothing gathered n = eqb gathered 0 && eqb n 0
 
+-- what a page is to the gathered list; a full page has the SVIDs that it adds, and an ending page those that it ends the list with
+pub data Judged : Type 0 where
+  bad : Judged
+  repeats : Judged
+  full : List ℕ → Judged
+  ends : List ℕ → Judged
+
+-- the refusal number of each
+abbrev pub refusalOf : Judged → ℕ
+refusalOf bad = 8
+refusalOf repeats = 0
+refusalOf (full svids) = 0
+refusalOf (ends svids) = 0
+
+-- the SVIDs that each adds to the list
+abbrev pub addedBy : Judged → List ℕ
+addedBy bad = []
+addedBy repeats = []
+addedBy (full svids) = svids
+addedBy (ends svids) = svids
+
 -- a page that is neither a repeat nor full
+abbrev pub judgedEnding : List ℕ → List ℕ → Judged
+judgedEnding list values =
+    cond (isEnding values && (not (nothing (length list) (before values)) && adds list (readOff values))) (ends (readOff values)) bad
+
+abbrev pub judged : List ℕ → List ℕ → Judged
+judged list values =
+    cond (isRepeat list values) repeats (cond (isFull values) (cond (adds list values) (full values) bad) (judgedEnding list values))
+
+-- how the code's answer shows it
+abbrev pub shown : Judged → Verdict
+shown bad = Bad
+shown repeats = Repeat
+shown (full svids) = More
+shown (ends svids) = Ends (length svids)
+
+-- and what that answer says of the page's values
+abbrev pub meant : List ℕ → Verdict → Judged
+meant values Bad = bad
+meant values Repeat = repeats
+meant values More = full values
+meant values (Ends k) = ends (take k values)
+
 unfoldable pub endingVerdict : List ℕ → List ℕ → Verdict
-endingVerdict list values =
-    cond (isEnding values && (not (nothing (length list) (before values)) && adds list (readOff values))) (Ends (before values)) Bad
+endingVerdict list values = shown (judgedEnding list values)
 
 unfoldable pub verdict : List ℕ → List ℕ → Verdict
-verdict list values =
-    cond (isRepeat list values) Repeat
-    (cond (isFull values) (cond (adds list values) More Bad) (endingVerdict list values))
+verdict list values = shown (judged list values)

@@ -1,8 +1,6 @@
 // Taking a page: what its values are to the gathered list. Document 01, "Taking a page".
 ghost use mathlib.Core.Path.{_≡_};
-ghost use Prim.Native.Nat.{_≤_};
-ghost use lib.ListN.{length, take, drop};
-ghost use Rattle.pages.specs.Pages.{readOff};
+ghost use lib.ListN.{length};
 ghost use Rattle.taking.specs.Taking.{sameList, isRepeat, isFull, isEnding, allNew, adds, nothing, endingVerdict, verdict};
 ghost use Rattle.taking.specs.Taking.{before as Taking·before};
 use pages::MOST_SVIDS;
@@ -17,7 +15,8 @@ pub enum Verdict {
     Ends(u8),
 }
 
-fn same(a: &[u16], b: &[u16]) -> bool
+// Are the two lists the same?
+pub fn same(a: &[u16], b: &[u16]) -> bool
     ensures { λ r. ⌜ r ≡ sameList (now (a .entry)) (now (b .entry)) ⌝ }
 {
     if a.len() != b.len() {

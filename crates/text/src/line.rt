@@ -36,14 +36,27 @@ pub fn put(line: &mut [u8], at: usize, byte: u8) -> usize {
     at
 }
 
-pub fn append(line: &mut [u8], at: usize, text: &[u8]) -> usize {
+// A byte stands as it is, or as its two digits.
+fn append_one(line: &mut [u8], at: usize, byte: u8, as_digits: bool) -> usize {
+    if as_digits {
+        return append_byte(line, at, byte);
+    }
+    put(line, at, byte)
+}
+
+// The bytes stand in their own order, with nothing between them.
+fn append_each(line: &mut [u8], at: usize, bytes: &[u8], as_digits: bool) -> usize {
     let mut end = at;
     let mut index = 0;
-    while index < text.len() {
-        end = put(line, end, text[index]);
+    while index < bytes.len() {
+        end = append_one(line, end, bytes[index], as_digits);
         index += 1;
     }
     end
+}
+
+pub fn append(line: &mut [u8], at: usize, text: &[u8]) -> usize {
+    append_each(line, at, text, false)
 }
 
 // A number below 2 ^ 64 has at most so many decimal digits.
@@ -100,15 +113,8 @@ pub fn append_word(line: &mut [u8], at: usize, word: u32) -> usize {
     append_half(line, middle, (word % 65536) as u16)
 }
 
-// The bytes stand in their own order, with nothing between them.
 pub fn append_bytes(line: &mut [u8], at: usize, bytes: &[u8]) -> usize {
-    let mut end = at;
-    let mut index = 0;
-    while index < bytes.len() {
-        end = append_byte(line, end, bytes[index]);
-        index += 1;
-    }
-    end
+    append_each(line, at, bytes, true)
 }
 
 // The bytes have a space before them.

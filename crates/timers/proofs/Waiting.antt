@@ -3,7 +3,7 @@ use mathlib.Core.Path.{_≡_, ap, _∙_}
 use Prim.Native.Nat.{ℕ, _<_, _≤_}
 use borrow.Author.Tests.{eq-eqb, ne-eqb, le-leb, lt-leb, lt-ltb, le-ltb}
 use Rattle.messages.specs.declared.request.Request.{Request}
-use Rattle.laptop.specs.Calls.{refuses, turns}
+use Rattle.laptop.specs.Calls.{refuses, accepts}
 use Rattle.laptop.specs.State.{ended, dropped}
 use Rattle.timers.specs.Timers.{over, decideTimer, decideError}
 use Rattle.laptop.specs.declared.Laptop.{Laptop}
@@ -14,15 +14,15 @@ use Rattle.laptop.specs.declared.Wait.the-variants.{Answer}
 use Rattle.laptop.specs.declared.Wait.the-variants.{Nothing as Wait·Nothing}
 
 module _ (l : Laptop) (r : Request) (told : Told) where
-  pub over-identity : r .command ≡ 1 → over l r told ≡ turns Nothing (dropped l)
+  pub over-identity : r .command ≡ 1 → over l r told ≡ accepts Nothing (dropped l)
   unfolding over
   over-identity e = rw (eq-eqb _ _ e)
 
-  pub over-discovery : (r .command ≡ 1 → ⊥) → r .command < 4 → over l r told ≡ turns Nothing (ended l)
+  pub over-discovery : (r .command ≡ 1 → ⊥) → r .command < 4 → over l r told ≡ accepts Nothing (ended l)
   unfolding over
   over-discovery n h = rw (ne-eqb _ _ n, lt-ltb _ _ h)
 
-  pub over-told : (r .command ≡ 1 → ⊥) → 4 ≤ r .command → over l r told ≡ turns told (ended l)
+  pub over-told : (r .command ≡ 1 → ⊥) → 4 ≤ r .command → over l r told ≡ accepts told (ended l)
   unfolding over
   over-told n h = rw (ne-eqb _ _ n, le-ltb _ _ h)
 

@@ -4,7 +4,7 @@ use mathlib.Core.Bool.{cond, _&&_}
 use lib.Dec.{leb, ltb, eqb}
 use Rattle.messages.specs.Requests.{identityCommand, enterCommand}
 use Rattle.messages.specs.declared.request.Request.{Request}
-use Rattle.laptop.specs.Calls.{Decision, refuses, turns}
+use Rattle.laptop.specs.Calls.{Decision, refuses, accepts}
 use Rattle.laptop.specs.State.{ended, dropped}
 use Rattle.laptop.specs.declared.Laptop.{Laptop}
 use Rattle.laptop.specs.declared.Told.{Told}
@@ -16,8 +16,8 @@ use Rattle.laptop.specs.declared.Wait.the-variants.{Nothing as Wait·Nothing}
 -- the wait ends; Identity then leaves no candidate, other candidates stay; for Enter and Exit policy is told
 unfoldable pub over : Laptop → Request → Told → Decision
 over l r told =
-    cond (eqb (r .command) identityCommand) (turns Nothing (dropped l))
-    (cond (ltb (r .command) enterCommand) (turns Nothing (ended l)) (turns told (ended l)))
+    cond (eqb (r .command) identityCommand) (accepts Nothing (dropped l))
+    (cond (ltb (r .command) enterCommand) (accepts Nothing (ended l)) (accepts told (ended l)))
 
 -- the timer of commands from first to last; the wrong one, or nothing awaited, is 9
 unfoldable pub decideTimer : ℕ → ℕ → Laptop → Wait → Decision

@@ -7,10 +7,10 @@ use laptop::Laptop;
 use laptop::Step;
 use laptop::Told;
 use laptop::Wait;
+use laptop::accepted;
 use laptop::dropped;
 use laptop::ended;
 use laptop::refused;
-use laptop::turned;
 use messages::ENTER;
 use messages::EXIT;
 use messages::IDENTITY;
@@ -22,12 +22,12 @@ fn over(laptop: Laptop, request: Request, told: Told) -> Step
     ensures { λ r. ⌜ r ≡ stepOf laptop (Timers·over laptop request told) 0 ⌝ }
 {
     if request.command == IDENTITY {
-        return turned(Told::Nothing, dropped(laptop));
+        return accepted(Told::Nothing, dropped(laptop));
     }
     if request.command < ENTER {
-        return turned(Told::Nothing, ended(laptop));
+        return accepted(Told::Nothing, ended(laptop));
     }
-    turned(told, ended(laptop))
+    accepted(told, ended(laptop))
 }
 
 // The timer of the commands from first to last.

@@ -19,11 +19,11 @@ use Rattle.laptop.specs.State.{Memory}
 use Rattle.laptop.specs.declared.Laptop.{Laptop}
 use Rattle.laptop.specs.declared.Wait.{Wait}
 use Rattle.laptop.specs.declared.Wait.the-variants.{Nothing, Answer}
-use Rattle.laptop_laws.specs.Done.{message, done}
+use Rattle.laptop_laws.specs.Effects.{message, effectOf}
 use Rattle.laptop_laws.specs.Holding.{Holding}
 use Rattle.laptop_laws.proofs.Laws.{keeps}
 use Rattle.link.specs.Demand.{Meets, heldIn}
-use Rattle.unharmed.specs.LastAnswer.{isLastHead}
+use Rattle.unharmed.proofs.LastAnswer.{isLastHead}
 use Rattle.link.specs.Joined.{Way, clear}
 use Rattle.link.specs.Link.{wayAfter, isUnsure, opens, fateOnArrival, lostOnArrival, arrives}
 use Rattle.unharmed.proofs.Arrival.{Arrival, on-time, confirmed-first}
@@ -80,7 +80,7 @@ module _ (modesOf : ℕ → List ℕ) (d : Dock) (meets : Meets modesOf d) where
         go false e (inl h) = inl (landed .old-lands e ∙ h)
         go false e (inr h) = inr (ap heldIn (landed .old-lands e) ∙ h)
 
-    way-after : WayFits (result .step .laptop .wait) (wayAfter (done (message bytes) l m []) way)
+    way-after : WayFits (result .step .laptop .wait) (wayAfter (effectOf (message bytes) l m []) way)
     unfolding wayAfter
     way-after = go (landed .wait-lands)
       where
@@ -89,7 +89,7 @@ module _ (modesOf : ℕ → List ℕ) (d : Dock) (meets : Meets modesOf d) where
         same (Answer r) f = f
 
         go : (result .step .laptop .wait ≡ Nothing) ⊎ (result .step .laptop ≡ l) →
-            WayFits (result .step .laptop .wait) (wayAfter (done (message bytes) l m []) way)
+            WayFits (result .step .laptop .wait) (wayAfter (effectOf (message bytes) l m []) way)
         go (inl e) = rw e tt
         go (inr e) = rw (landed .silent, e) (same (l .wait) (i .way-fits))
 
@@ -97,7 +97,7 @@ module _ (modesOf : ℕ → List ℕ) (d : Dock) (meets : Meets modesOf d) where
     unsure = isUnsure l (result .step .laptop) (dockAt modesOf d q t)
 
     arrived-inv : FateFits modesOf d t q (arrival .fate-then unsure) →
-        Inv modesOf d old (result .step .laptop) (result .after) (wayAfter (done (message bytes) l m []) way) q t (arrival .fate-then unsure)
+        Inv modesOf d old (result .step .laptop) (result .after) (wayAfter (effectOf (message bytes) l m []) way) q t (arrival .fate-then unsure)
         (cond (opens l (result .step .laptop)) 0 (arrival .lost-then unsure))
     arrived-inv f =
         record {
@@ -147,7 +147,7 @@ module _ (modesOf : ℕ → List ℕ) (d : Dock) (meets : Meets modesOf d) where
         let o : Bool = opens l (heard l m (readOutcome (messageBytes (messageOf modesOf d a))) .step .laptop) in
         reached modesOf d old _ q t (arrivedAs (listed d) t b) (fate-arrived t b) refl
         (subst
-        (λ (n : ℕ). Inv modesOf d old (heard l m (readOutcome (messageBytes (messageOf modesOf d a))) .step .laptop) (heard l m (readOutcome (messageBytes (messageOf modesOf d a))) .after) (wayAfter (done (message (messageBytes (messageOf modesOf d a))) l m []) way) q t (arrivedAs (listed d) t b) (cond o 0 n))
+        (λ (n : ℕ). Inv modesOf d old (heard l m (readOutcome (messageBytes (messageOf modesOf d a))) .step .laptop) (heard l m (readOutcome (messageBytes (messageOf modesOf d a))) .after) (wayAfter (effectOf (message (messageBytes (messageOf modesOf d a))) l m []) way) q t (arrivedAs (listed d) t b) (cond o 0 n))
         (sym (lost-arrived t b z))
         (arrived-inv old l m way q t z a (underWay a) i (i .fate-fits .1) (gives-gave a q (i .fate-fits .0)) (timely i) (arrived-fits t q b)))
 

@@ -13,7 +13,7 @@ use Rattle.messages.specs.Table.{oneToFive}
 use Rattle.messages.specs.declared.request.Request.{Request}
 use Rattle.pages.specs.Pages.{isLast}
 use Rattle.dock.specs.Data.{listed, withPage, withStanding}
-use Rattle.dock.specs.Dock.{Decision, refuses, turns, sends, stepOf, asking, decideRequest, decideMessage, decideAnswer, moved}
+use Rattle.dock.specs.Dock.{Decision, refuses, accepts, sends, stepOf, asking, decideRequest, decideMessage, decidePolicyAnswer, moved}
 use Rattle.dock.specs.declared.Dock.{Dock}
 use Rattle.dock.specs.declared.Policy.{Policy}
 use Rattle.dock.specs.declared.Standing.{Standing}
@@ -43,7 +43,7 @@ unfoldable pub pageThen : Request → ℕ → ℕ
 pageThen r q = cond (eqb (r .command) 1) 0 q
 
 module _ (r : Request) (least : 1 ≤ r .command) (most : r .command ≤ 5) where
-  pub request-turns : (d : Dock) → decideMessage d (accepted (requestMessage r)) ≡ turns (asking r d)
+  pub request-turns : (d : Dock) → decideMessage d (accepted (requestMessage r)) ≡ accepts (asking r d)
   unfolding decideMessage decideRequest
   request-turns d =
       let other : eqb (r .command) 6 ≡ false = ne-eqb (r .command) 6 (λ e. omega arith) in
@@ -69,9 +69,9 @@ module _ (modesOf : ℕ → List ℕ) (d : Dock) where
       go false = refl
 
   -- what a candidate needs of a change at the dock and on the link: nothing more can be heard of the last answer,
-  module _ (size : Size) (filled pages : ℕ) (m : Memory) where
-    complete-on : {v : Carried} {z : ℕ} → Complete modesOf d size filled pages m v z → (v′ : Carried) (t : Standing) → Quiet t v′ →
-        Complete modesOf d size filled pages m v′ (lostThen v z)
+  module _ (size : Size) (stored pages : ℕ) (m : Memory) where
+    complete-on : {v : Carried} {z : ℕ} → Complete modesOf d size stored pages m v z → (v′ : Carried) (t : Standing) → Quiet t v′ →
+        Complete modesOf d size stored pages m v′ (lostThen v z)
     complete-on {v = v} {z = z} c v′ t y =
         record {
           same-identity = c .same-identity;
@@ -81,9 +81,9 @@ module _ (modesOf : ℕ → List ℕ) (d : Dock) where
           settled = quiet-settled t v′ y;
         }
 
-    pub candidate-replaced : (c : Candidate) (t : Standing) (q : ℕ) (v : Carried) (z : ℕ) → CandidateIs modesOf d c size filled pages m t q v z →
+    pub candidate-replaced : (c : Candidate) (t : Standing) (q : ℕ) (v : Carried) (z : ℕ) → CandidateIs modesOf d c size stored pages m t q v z →
         (t′ : Standing) (q′ : ℕ) (v′ : Carried) → Quiet t′ v′ → NoSurePage v → (c ≡ Open → q′ ≡ q) →
-        CandidateIs modesOf d c size filled pages m t′ q′ v′ (lostThen v z)
+        CandidateIs modesOf d c size stored pages m t′ q′ v′ (lostThen v z)
     candidate-replaced Absent t q v z c t′ q′ v′ y n e = tt
     candidate-replaced Open t q v z c t′ q′ v′ y n e = (
       c .0,
@@ -93,8 +93,8 @@ module _ (modesOf : ℕ → List ℕ) (d : Dock) where
     candidate-replaced Done t q v z c t′ q′ v′ y n e = complete-on c v′ t′ y
 
     -- or its fate moves on while the page is not undecided
-    pub complete-same : {v : Carried} {z : ℕ} → Complete modesOf d size filled pages m v z → (v′ : Carried) (t : Standing) → Quiet t v′ →
-        Complete modesOf d size filled pages m v′ z
+    pub complete-same : {v : Carried} {z : ℕ} → Complete modesOf d size stored pages m v z → (v′ : Carried) (t : Standing) → Quiet t v′ →
+        Complete modesOf d size stored pages m v′ z
     complete-same c v′ t y =
         record {
           same-identity = c .same-identity;
@@ -160,7 +160,7 @@ module _ (modesOf : ℕ → List ℕ) (d : Dock) where
 
     -- the dock and the link change, the laptop does not
     pub moves : (l : Laptop) (m : Memory) (way way′ : Way) (q q′ : ℕ) (t t′ : Standing) (v v′ : Carried) (z z′ : ℕ) → Inv l m way q t v z →
-        CandidateIs modesOf d (l .candidate) (l .gathered) (l .filled) (l .pages) m t′ q′ v′ z′ → WayFits (l .wait) way′ →
+        CandidateIs modesOf d (l .candidate) (l .gathered) (l .stored) (l .pages) m t′ q′ v′ z′ → WayFits (l .wait) way′ →
         FateFits modesOf d t′ q′ v′ → AsksFit t′ q′ → Inv l m way′ q′ t′ v′ z′
     moves l m way way′ q q′ t t′ v v′ z z′ i c w f a =
         record { formed = i .formed; candidate-is = c; held-is = i .held-is; way-fits = w; fate-fits = f; asks-fit = a }
@@ -171,10 +171,10 @@ module _ (modesOf : ℕ → List ℕ) (d : Dock) where
       abbrev o : Out (l .wait) bytes
       o = i .way-fits
 
-      awaits : WaitFits (Answer (o .asked)) (l .candidate) (l .pages) (l .filled) (m .svids)
-      awaits = subst (λ (w : Wait). WaitFits w (l .candidate) (l .pages) (l .filled) (m .svids)) (o .awaited) (i .formed .wait-fits)
+      awaits : WaitFits (Answer (o .asked)) (l .candidate) (l .pages) (l .stored) (m .svids)
+      awaits = subst (λ (w : Wait). WaitFits w (l .candidate) (l .pages) (l .stored) (m .svids)) (o .awaited) (i .formed .wait-fits)
 
-      known : (r : Request) → r .command ≤ 5 → WaitFits (Answer r) (l .candidate) (l .pages) (l .filled) (m .svids) →
+      known : (r : Request) → r .command ≤ 5 → WaitFits (Answer r) (l .candidate) (l .pages) (l .stored) (m .svids) →
           Known r (pageThen r q) × (1 ≤ r .command) × (l .candidate ≡ Open → pageThen r q ≡ q)
       unfolding pageThen
       known r few (inl f) = (
@@ -188,7 +188,7 @@ module _ (modesOf : ℕ → List ℕ) (d : Dock) where
         λ e. ap (λ (x : Request). cond (eqb (x .command) 1) 0 q) (f .0),
       )
       known r few (inr (inr (inl f))) = (
-        known-modes (getD (m .svids) (l .filled) 0) (f .0),
+        known-modes (getD (m .svids) (l .stored) 0) (f .0),
         omega (arith, ap (λ (x : Request). x .command) (f .0)),
         λ e. ap (λ (x : Request). cond (eqb (x .command) 1) 0 q) (f .0),
       )
@@ -204,27 +204,27 @@ module _ (modesOf : ℕ → List ℕ) (d : Dock) where
       pub request-read : readOutcome bytes ≡ accepted (requestMessage (o .asked))
       request-read = ap readOutcome (o .bytes-are) ∙ reads (requestMessage (o .asked)) (o .shaped) (λ k. omega arith)
 
-      pub request-decided : decideMessage (dockAt modesOf d q t) (readOutcome bytes) ≡ turns (asking (o .asked) (dockAt modesOf d q t))
+      pub request-decided : decideMessage (dockAt modesOf d q t) (readOutcome bytes) ≡ accepts (asking (o .asked) (dockAt modesOf d q t))
       request-decided =
           ap (decideMessage (dockAt modesOf d q t)) request-read ∙ request-turns (o .asked) (asked-is .1) (o .few) (dockAt modesOf d q t)
 
-      turned-dock : (x : Decision) (n : Dock) → x ≡ turns n → stepOf (dockAt modesOf d q t) x (length out) .dock ≡ n
+      accepted-dock : (x : Decision) (n : Dock) → x ≡ accepts n → stepOf (dockAt modesOf d q t) x (length out) .dock ≡ n
       unfolding stepOf
-      turned-dock x n e = rw e
+      accepted-dock x n e = rw e
 
-      turned-fate : (x : Decision) (n : Dock) → x ≡ turns n → handedOver (dockAt modesOf d q t) x out gone ≡ gone
+      accepted-fate : (x : Decision) (n : Dock) → x ≡ accepts n → handedOver (dockAt modesOf d q t) x out gone ≡ gone
       unfolding stepOf handedOver
-      turned-fate x n e = rw e
+      accepted-fate x n e = rw e
 
       reach-request : NoSurePage v →
           Reached modesOf d old
           (reachedBy out (decideMessage (dockAt modesOf d q t) (readOutcome bytes)) (systemOf modesOf d old l m (request bytes) q t v z))
       reach-request n =
-          reached _ (pageThen (o .asked) q) (Asking (o .asked)) nothing (turned-fate _ _ request-decided)
-          (turned-dock _ _ request-decided ∙ asking-at (o .asked) q t)
+          reached _ (pageThen (o .asked) q) (Asking (o .asked)) nothing (accepted-fate _ _ request-decided)
+          (accepted-dock _ _ request-decided ∙ asking-at (o .asked) q t)
           (subst (λ (x : ℕ). Inv l m clear (pageThen (o .asked) q) (Asking (o .asked)) nothing x) (sym (lost-is v z))
           (moves l m (request bytes) clear q (pageThen (o .asked) q) t (Asking (o .asked)) v nothing z (lostThen v z) i
-          (candidate-replaced (l .gathered) (l .filled) (l .pages) m (l .candidate) t q v z (i .candidate-is) (Asking (o .asked))
+          (candidate-replaced (l .gathered) (l .stored) (l .pages) m (l .candidate) t q v z (i .candidate-is) (Asking (o .asked))
           (pageThen (o .asked) q) nothing tt n (asked-is .2)) tt tt (asked-is .0)))
 
     pub reach-ok : (l : Laptop) (m : Memory) (way : Way) (q : ℕ) (t : Standing) (v : Carried) (z : ℕ) → Inv l m way q t v z → (out : List ℕ) →
@@ -236,12 +236,12 @@ module _ (modesOf : ℕ → List ℕ) (d : Dock) where
     reach-ok l m (request bytes) q t (arrived b) z i out = reach-request l m bytes q t (arrived b) z i out tt
 
 module _ (modesOf : ℕ → List ℕ) (d : Dock) (old : Holding) where
-  candidate-answered : (c : Candidate) (size : Size) (filled pages : ℕ) (m : Memory) (r : Request) (q : ℕ) (v : Carried) (z : ℕ) (a : FairAnswer) →
-      CandidateIs modesOf d c size filled pages m (Asking r) q v z → NoSurePage v → (t : Standing) →
-      CandidateIs modesOf d c size filled pages m t q (underWay a) z
-  candidate-answered Absent size filled pages m r q v z a c n t = tt
-  candidate-answered Open size filled pages m r q v z a c n t = (c .0, answered (listed d) (c .1) t a n)
-  candidate-answered Done size filled pages m r q v z a c n t = complete-same modesOf d size filled pages m c (underWay a) t tt
+  candidate-answered : (c : Candidate) (size : Size) (stored pages : ℕ) (m : Memory) (r : Request) (q : ℕ) (v : Carried) (z : ℕ) (a : FairAnswer) →
+      CandidateIs modesOf d c size stored pages m (Asking r) q v z → NoSurePage v → (t : Standing) →
+      CandidateIs modesOf d c size stored pages m t q (underWay a) z
+  candidate-answered Absent size stored pages m r q v z a c n t = tt
+  candidate-answered Open size stored pages m r q v z a c n t = (c .0, answered (listed d) (c .1) t a n)
+  candidate-answered Done size stored pages m r q v z a c n t = complete-same modesOf d size stored pages m c (underWay a) t tt
 
   refused-dock : (x : Dock) (y : Decision) (number room : ℕ) → y ≡ refuses number → stepOf x y room .dock ≡ x
   unfolding stepOf
@@ -265,7 +265,7 @@ module _ (modesOf : ℕ → List ℕ) (d : Dock) (old : Holding) where
         go (inl h) =
             reached modesOf d old _ q (Sending (isPage a)) (underWay a) (h .0) (h .1)
             (moves modesOf d old l m way way q q (Asking r) (Sending (isPage a)) v (underWay a) z z i
-            (candidate-answered (l .candidate) (l .gathered) (l .filled) (l .pages) m r q v z a (i .candidate-is)
+            (candidate-answered (l .candidate) (l .gathered) (l .stored) (l .pages) m r q v z a (i .candidate-is)
             (asking-sure modesOf d r q v (i .fate-fits)) (Sending (isPage a))) (i .way-fits) (g, h .2, inl refl) tt)
         go (inr h) = reached modesOf d old _ q (Asking r) v (h .0) (h .1) i
 
@@ -278,7 +278,7 @@ module _ (modesOf : ℕ → List ℕ) (d : Dock) (old : Holding) where
     policy-answered : (policy : Policy) (b : Bool) → isFair policy r (listed d) ≡ b →
         Reached modesOf d old
         (cond b
-        (answeredBy out (decideAnswer (dockAt modesOf d q (Asking r)) (Asking r) policy r (brought modesOf policy r))
+        (answeredBy out (decidePolicyAnswer (dockAt modesOf d q (Asking r)) (Asking r) policy r (brought modesOf policy r))
         (systemOf modesOf d old l m way q (Asking r) v z)) (systemOf modesOf d old l m way q (Asking r) v z))
     unfolding asked-by
     policy-answered policy true e = offered _ (fair-offered modesOf d q policy r (i .asks-fit) e)

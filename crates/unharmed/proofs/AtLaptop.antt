@@ -14,7 +14,7 @@ use Rattle.messages.specs.Table.{pdSid}
 use Rattle.messages.specs.declared.request.Request.{Request}
 use Rattle.dock.specs.declared.Dock.{Dock}
 use Rattle.dock.specs.declared.Standing.{Standing}
-use Rattle.laptop.specs.Calls.{Decision, refuses, turns, sends, stepOf, unless, isAwaiting}
+use Rattle.laptop.specs.Calls.{Decision, refuses, accepts, sends, stepOf, unless, isAwaiting}
 use Rattle.owner.specs.Owner.{discover, requestMessage, asksNext, decideNext, decideStartOver, decideDrop, decideEnter, decideExit}
 use Rattle.laptop.specs.State.{Memory, ended, dropped, awaiting, identityRequest, identityAsked}
 use Rattle.timers.specs.Timers.{over, decideTimer, decideError}
@@ -25,7 +25,7 @@ use Rattle.laptop.specs.declared.Told.{Told}
 use Rattle.laptop.specs.declared.Told.the-variants.{Timer, ProtocolError}
 use Rattle.laptop.specs.declared.Wait.{Wait}
 use Rattle.laptop.specs.declared.Wait.the-variants.{Nothing, Answer}
-use Rattle.laptop_laws.specs.Done.{Call, message, next, startOver, drop, enter, exit, timer, protocolError, decided}
+use Rattle.laptop_laws.specs.Effects.{Call, message, next, startOver, drop, enter, exit, timer, protocolError, decided}
 use Rattle.laptop_laws.specs.Holding.{Holding, holding}
 use Rattle.laptop_laws.specs.WellFormed.{WaitFits, WellFormed}
 use Rattle.laptop_laws.proofs.Laws.{keeps}
@@ -42,8 +42,8 @@ pub data Decides (l : Laptop) (c : Call) (x : Decision) : Type 0 where
   stays : (number : ℕ) → (number ≡ 0 → ⊥) → x ≡ refuses number l → Decides l c x
   asks-identity : (l .candidate ≡ Absent) ⊎ (c ≡ startOver) → x ≡ sends (requestMessage identityRequest) (identityAsked l) → Decides l c x
   asks-other : (r : Request) → 2 ≤ r .command → r .command ≤ 5 → x ≡ sends (requestMessage r) (awaiting r l) → Decides l c x
-  drops : (told : Told) → (l .candidate ≡ Absent) ⊎ (c ≡ drop) → x ≡ turns told (dropped l) → Decides l c x
-  ends : (told : Told) → x ≡ turns told (ended l) → Decides l c x
+  drops : (told : Told) → (l .candidate ≡ Absent) ⊎ (c ≡ drop) → x ≡ accepts told (dropped l) → Decides l c x
+  ends : (told : Told) → x ≡ accepts told (ended l) → Decides l c x
 
 module _ (l : Laptop) (c : Call) where
   either : (b : Bool) (x y : Decision) → Decides l c x → Decides l c y → Decides l c (cond b x y)
@@ -62,29 +62,29 @@ module _ (l : Laptop) (c : Call) where
   unfolding asksNext
   next-decides svids Absent e = asks-identity (inl e) refl
   next-decides svids Open e = asks-other (discover pdSid svidsCommand) (omega arith) (omega arith) refl
-  next-decides svids Done e = asks-other (discover (getD svids (l .filled) 0) modesCommand) (omega arith) (omega arith) refl
+  next-decides svids Done e = asks-other (discover (getD svids (l .stored) 0) modesCommand) (omega arith) (omega arith) refl
 
   -- where Identity is awaited there is no candidate
-  pub identity-absent : (r : Request) (m : Memory) → WaitFits (Answer r) (l .candidate) (l .pages) (l .filled) (m .svids) → r .command ≡ 1 →
+  pub identity-absent : (r : Request) (m : Memory) → WaitFits (Answer r) (l .candidate) (l .pages) (l .stored) (m .svids) → r .command ≡ 1 →
       l .candidate ≡ Absent
   identity-absent r m (inl f) e = f .1
   identity-absent r m (inr (inl f)) e = absurd (omega (arith, ap (λ (x : Request). x .command) (f .0)))
   identity-absent r m (inr (inr (inl f))) e = absurd (omega (arith, ap (λ (x : Request). x .command) (f .0)))
   identity-absent r m (inr (inr (inr f))) e = f .1
 
-  over-decides : (r : Request) (m : Memory) (told : Told) → WaitFits (Answer r) (l .candidate) (l .pages) (l .filled) (m .svids) → Decides l c (over l r told)
+  over-decides : (r : Request) (m : Memory) (told : Told) → WaitFits (Answer r) (l .candidate) (l .pages) (l .stored) (m .svids) → Decides l c (over l r told)
   unfolding over
   over-decides r m told f =
       checked (eqb (r .command) 1) _ _ (λ e. drops _ (inl (identity-absent r m f (eqb-true (r .command) 1 e))) refl)
       (λ e. either (ltb (r .command) 4) _ _ (ends _ refl) (ends told refl))
 
-  timer-decides : (first last : ℕ) (m : Memory) (w : Wait) → WaitFits w (l .candidate) (l .pages) (l .filled) (m .svids) → Decides l c (decideTimer first last l w)
+  timer-decides : (first last : ℕ) (m : Memory) (w : Wait) → WaitFits w (l .candidate) (l .pages) (l .stored) (m .svids) → Decides l c (decideTimer first last l w)
   unfolding decideTimer
   timer-decides first last m Nothing f = stays 9 (λ e. omega arith) refl
   timer-decides first last m (Answer r) f =
       either (leb first (r .command) && leb (r .command) last) _ _ (over-decides r m (Timer r) f) (stays 9 (λ e. omega arith) refl)
 
-  error-decides : (m : Memory) (w : Wait) → WaitFits w (l .candidate) (l .pages) (l .filled) (m .svids) → Decides l c (decideError l w)
+  error-decides : (m : Memory) (w : Wait) → WaitFits w (l .candidate) (l .pages) (l .stored) (m .svids) → Decides l c (decideError l w)
   unfolding decideError
   error-decides m Nothing f = stays 9 (λ e. omega arith) refl
   error-decides m (Answer r) f = over-decides r m (ProtocolError r) f
@@ -103,7 +103,7 @@ module _ (modesOf : ℕ → List ℕ) (d : Dock) (old : Holding) where
 
     -- a laptop with the same candidate and holding, or without a candidate
     stands : (l′ : Laptop) (way′ : Way) → holding l′ m ≡ holding l m →
-        CandidateIs modesOf d (l′ .candidate) (l′ .gathered) (l′ .filled) (l′ .pages) m t q v z → WayFits (l′ .wait) way′ → WellFormed l′ m →
+        CandidateIs modesOf d (l′ .candidate) (l′ .gathered) (l′ .stored) (l′ .pages) m t q v z → WayFits (l′ .wait) way′ → WellFormed l′ m →
         Inv modesOf d old l′ m way′ q t v z
     stands l′ way′ h c w f =
         record {
@@ -127,12 +127,12 @@ module _ (modesOf : ℕ → List ℕ) (d : Dock) (old : Holding) where
     stays-after : (x : Decision) → stepOf l x (length out) .laptop ≡ l → stepOf l x (length out) .length ≡ 0 → After x
     stays-after x e n f =
         stands (stepOf l x (length out) .laptop) _ (ap (λ (y : Laptop). holding y m) e)
-        (subst (λ (y : Laptop). CandidateIs modesOf d (y .candidate) (y .gathered) (y .filled) (y .pages) m t q v z) (sym e) (i .candidate-is))
+        (subst (λ (y : Laptop). CandidateIs modesOf d (y .candidate) (y .gathered) (y .stored) (y .pages) m t q v z) (sym e) (i .candidate-is))
         (way-stays x e n) f
 
     -- a request goes out
     asks-after : (r : Request) (l′ : Laptop) → l′ .wait ≡ Answer r → r .command ≤ 5 → holding l′ m ≡ holding l m →
-        CandidateIs modesOf d (l′ .candidate) (l′ .gathered) (l′ .filled) (l′ .pages) m t q v z → After (sends (requestMessage r) l′)
+        CandidateIs modesOf d (l′ .candidate) (l′ .gathered) (l′ .stored) (l′ .pages) m t q v z → After (sends (requestMessage r) l′)
     asks-after r l′ w few h c = go (sends-out l l′ m (requestMessage r) out way (ap isAwaiting w))
       where
         go : SendsOut l l′ m (requestMessage r) out way (ap isAwaiting w) → After (sends (requestMessage r) l′)
@@ -145,7 +145,7 @@ module _ (modesOf : ℕ → List ℕ) (d : Dock) (old : Holding) where
 
     -- nothing is awaited any more
     turns-after : (told : Told) (l′ : Laptop) → l′ .wait ≡ Nothing → holding l′ m ≡ holding l m →
-        CandidateIs modesOf d (l′ .candidate) (l′ .gathered) (l′ .filled) (l′ .pages) m t q v z → After (turns told l′)
+        CandidateIs modesOf d (l′ .candidate) (l′ .gathered) (l′ .stored) (l′ .pages) m t q v z → After (accepts told l′)
     unfolding stepOf wayAfter
     turns-after told l′ w h c f = stands l′ _ h c (subst (λ (x : Wait). WayFits (l′ .wait) (cond (isAwaiting x) way clear)) (sym w) tt) f
 

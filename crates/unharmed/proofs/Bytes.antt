@@ -29,7 +29,7 @@ use Rattle.laptop.specs.Calls.{stepOf as Laptop·stepOf}
 use Rattle.laptop.specs.Calls.{bufferOf as Laptop·bufferOf}
 use Rattle.laptop.specs.State.{Memory}
 use Rattle.laptop.specs.declared.Laptop.{Laptop}
-use Rattle.laptop_laws.specs.Done.{decided}
+use Rattle.laptop_laws.specs.Effects.{decided}
 use Rattle.link.specs.Joined.{Way, request, Fate, coming}
 use Rattle.link.specs.Link.{wayAfter, handedOver}
 

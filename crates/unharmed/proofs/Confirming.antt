@@ -24,12 +24,12 @@ use Rattle.unharmed.proofs.AtDock.{moved-at, candidate-replaced, comple
 
 module _ (modesOf : ℕ → List ℕ) (d : Dock) (old : Holding) where
   -- the answer is lost
-  candidate-lost : (c : Candidate) (size : Size) (filled pages : ℕ) (m : Memory) (t : Standing) (q z : ℕ) (a : FairAnswer) →
-      CandidateIs modesOf d c size filled pages m t q (underWay a) z → CandidateIs modesOf d c size filled pages m t q nothing z
-  candidate-lost Absent size filled pages m t q z a c = tt
-  candidate-lost Open size filled pages m t q z a c =
+  candidate-lost : (c : Candidate) (size : Size) (stored pages : ℕ) (m : Memory) (t : Standing) (q z : ℕ) (a : FairAnswer) →
+      CandidateIs modesOf d c size stored pages m t q (underWay a) z → CandidateIs modesOf d c size stored pages m t q nothing z
+  candidate-lost Absent size stored pages m t q z a c = tt
+  candidate-lost Open size stored pages m t q z a c =
       (c .0, passes (listed d) (c .1) t nothing tt tt (λ e. let o : _≡_ {A = ℕ} 0 1 = cc in omega arith))
-  candidate-lost Done size filled pages m t q z a c = complete-same modesOf d size filled pages m c nothing t tt
+  candidate-lost Done size stored pages m t q z a c = complete-same modesOf d size stored pages m c nothing t tt
 
   pub lose-ok : (l : Laptop) (m : Memory) (way : Way) (q : ℕ) (t : Standing) (v : Carried) (z : ℕ) → Inv modesOf d old l m way q t v z →
       Reached modesOf d old (losesAnswer (fateOf modesOf d v) (systemOf modesOf d old l m way q t v z))
@@ -37,7 +37,7 @@ module _ (modesOf : ℕ → List ℕ) (d : Dock) (old : Holding) where
   lose-ok l m way q t (underWay a) z i =
       reached modesOf d old _ q t nothing refl refl
       (moves modesOf d old l m way way q q t t (underWay a) nothing z z i
-      (candidate-lost (l .candidate) (l .gathered) (l .filled) (l .pages) m t q z a (i .candidate-is)) (i .way-fits) tt (i .asks-fit))
+      (candidate-lost (l .candidate) (l .gathered) (l .stored) (l .pages) m t q z a (i .candidate-is)) (i .way-fits) tt (i .asks-fit))
   lose-ok l m way q t (sure a) z i = same-reached modesOf d old l m way q t (sure a) z i
   lose-ok l m way q t (arrived b) z i = same-reached modesOf d old l m way q t (arrived b) z i
 
@@ -53,19 +53,19 @@ module _ (modesOf : ℕ → List ℕ) (d : Dock) (old : Holding) where
   pub page-given : (a : FairAnswer) (q p : ℕ) → Gives modesOf d a q → a ≡ pageAck p → p ≡ q
   page-given a q p g e = subst (λ (x : FairAnswer). Gives modesOf d x q) e g .0
 
-  candidate-sent : (c : Candidate) (size : Size) (filled pages : ℕ) (m : Memory) (b : Bool) (q z : ℕ) (x : Bool) →
-      CandidateIs modesOf d c size filled pages m (Sending b) q (arrived x) z →
-      CandidateIs modesOf d c size filled pages m Ready (movesOn (listed d) b q) nothing z
-  candidate-sent Absent size filled pages m b q z x c = tt
-  candidate-sent Open size filled pages m b q z x c = (c .0, confirmed-after (listed d) (c .1))
-  candidate-sent Done size filled pages m b q z x c = complete-same modesOf d size filled pages m c nothing Ready tt
+  candidate-sent : (c : Candidate) (size : Size) (stored pages : ℕ) (m : Memory) (b : Bool) (q z : ℕ) (x : Bool) →
+      CandidateIs modesOf d c size stored pages m (Sending b) q (arrived x) z →
+      CandidateIs modesOf d c size stored pages m Ready (movesOn (listed d) b q) nothing z
+  candidate-sent Absent size stored pages m b q z x c = tt
+  candidate-sent Open size stored pages m b q z x c = (c .0, confirmed-after (listed d) (c .1))
+  candidate-sent Done size stored pages m b q z x c = complete-same modesOf d size stored pages m c nothing Ready tt
 
-  candidate-sure : (c : Candidate) (size : Size) (filled pages : ℕ) (m : Memory) (t : Standing) (q z : ℕ) (a : FairAnswer) → Gives modesOf d a q →
-      CandidateIs modesOf d c size filled pages m t q (underWay a) z →
-      CandidateIs modesOf d c size filled pages m Ready (movesOn (listed d) (isPage a) q) (sure a) z
-  candidate-sure Absent size filled pages m t q z a g c = tt
-  candidate-sure Open size filled pages m t q z a g c = (c .0, confirmed-before (listed d) a (λ p e. page-given a q p g e) (c .1))
-  candidate-sure Done size filled pages m t q z a g c =
+  candidate-sure : (c : Candidate) (size : Size) (stored pages : ℕ) (m : Memory) (t : Standing) (q z : ℕ) (a : FairAnswer) → Gives modesOf d a q →
+      CandidateIs modesOf d c size stored pages m t q (underWay a) z →
+      CandidateIs modesOf d c size stored pages m Ready (movesOn (listed d) (isPage a) q) (sure a) z
+  candidate-sure Absent size stored pages m t q z a g c = tt
+  candidate-sure Open size stored pages m t q z a g c = (c .0, confirmed-before (listed d) a (λ p e. page-given a q p g e) (c .1))
+  candidate-sure Done size stored pages m t q z a g c =
       record {
         same-identity = c .same-identity;
         same-list = c .same-list;
@@ -101,12 +101,12 @@ module _ (modesOf : ℕ → List ℕ) (d : Dock) (old : Holding) where
       reached modesOf d old _ (movesOn (listed d) (isPage a) q) Ready (sure a) refl
       (sent-dock q b ∙ ap (λ (x : Bool). dockAt modesOf d (movesOn (listed d) x q) Ready) same)
       (moves modesOf d old l m way way q (movesOn (listed d) (isPage a) q) (Sending b) Ready (underWay a) (sure a) z z i
-      (candidate-sure (l .candidate) (l .gathered) (l .filled) (l .pages) m (Sending b) q z a (i .fate-fits .0) (i .candidate-is)) (i .way-fits)
+      (candidate-sure (l .candidate) (l .gathered) (l .stored) (l .pages) m (Sending b) q z a (i .fate-fits .0) (i .candidate-is)) (i .way-fits)
       (gave a q (i .fate-fits .0), i .fate-fits .1, refl) tt)
   sent-ok l m way q (Sending b) (arrived x) z i =
       reached modesOf d old _ (movesOn (listed d) b q) Ready nothing refl (sent-dock q b)
       (moves modesOf d old l m way way q (movesOn (listed d) b q) (Sending b) Ready (arrived x) nothing z z i
-      (candidate-sent (l .candidate) (l .gathered) (l .filled) (l .pages) m b q z x (i .candidate-is)) (i .way-fits) tt tt)
+      (candidate-sent (l .candidate) (l .gathered) (l .stored) (l .pages) m b q z x (i .candidate-is)) (i .way-fits) tt tt)
 
   -- or "failed"
   abbrev failedAs : Carried → Carried
@@ -142,5 +142,5 @@ module _ (modesOf : ℕ → List ℕ) (d : Dock) (old : Holding) where
       reached modesOf d old _ q Ready (failedAs v) (failed-fate v) (failed-dock q b)
       (subst (λ (x : ℕ). Inv modesOf d old l m way q Ready (failedAs v) x) (sym (lost-is modesOf d v z))
       (moves modesOf d old l m way way q q (Sending b) Ready v (failedAs v) z (lostThen v z) i
-      (candidate-replaced modesOf d (l .gathered) (l .filled) (l .pages) m (l .candidate) (Sending b) q v z (i .candidate-is) Ready q (failedAs v)
+      (candidate-replaced modesOf d (l .gathered) (l .stored) (l .pages) m (l .candidate) (Sending b) q v z (i .candidate-is) Ready q (failedAs v)
       (failed-quiet v n) n (λ e. refl)) (i .way-fits) (failed-fits b q v (i .fate-fits)) tt))

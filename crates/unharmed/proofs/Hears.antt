@@ -19,14 +19,14 @@ use Rattle.pages.specs.Pages.{halves}
 use Rattle.taking.specs.Taking.{verdict}
 use Rattle.taking.specs.declared.Verdict.the-variants.{Repeat, More, Ends}
 use Rattle.dock.specs.Dock.{reply}
-use Rattle.gathering.specs.Gathering.{Gathering, gathering, hearIdentity, takePage, hearSvids}
-use Rattle.hearing.specs.Answers.{filling, storeModes, hearModes, turnedDown, hearMode, isDone, isWhole, copied}
-use Rattle.laptop.specs.Calls.{refusedBy, turnedTo, shortRuns}
+use Rattle.gathering.specs.Gathering.{Gathering, gathering, hearIdentity, takePage, noneGathered, hearSvids}
+use Rattle.hearing.specs.Answers.{storing, storeModes, hearModes, declinedAs, hearMode, isDone, isWhole, copied}
+use Rattle.laptop.specs.Calls.{refusedBy, acceptedWith, shortRuns}
 use Rattle.laptop.specs.Catalogue.{heldList}
-use Rattle.hearing.specs.Hearing.{Result, only, fits, isLatePage, hearUnawaited, withGathering, withFilling, settledStep, settledList, settledRun, settled, hearAnswer, hear, heard}
+use Rattle.hearing.specs.Hearing.{Result, only, fits, isLatePage, hearUnawaited, withGathering, withStoring, stepIfWhole, listIfWhole, runIfWhole, publishedIfWhole, publishing, hearAnswer, hear, heard}
 use Rattle.laptop.specs.Marks.{marksAfter}
 use Rattle.owner.specs.Owner.{discover}
-use Rattle.laptop.specs.State.{Memory, memory, gatheredList, ended, dropped, opened, withPages, gatheredTo, filledTo, published, identityRequest}
+use Rattle.laptop.specs.State.{Memory, memory, gatheredList, ended, dropped, opened, withPages, gatheredTo, storedTo, published, identityRequest}
 use Rattle.laptop.specs.declared.Candidate.the-variants.{Absent, Open, Done}
 use Rattle.laptop.specs.declared.Laptop.{Laptop}
 use Rattle.laptop.specs.declared.Told.the-variants.{Nothing as Told·Nothing}
@@ -50,71 +50,71 @@ module _ (l : Laptop) (m : Memory) (lent : Lent m) (x : Message) (answers : eqb 
   unfolding heard hear hearUnawaited
   hear-ignored e p = rw (not-short m lent, answers, e, p)
 
--- a result that publishes nothing is settled as it is
-settled-no : (x : Result) → isWhole (x .step .laptop) ≡ false → settled x ≡ x
-unfolding settledStep settledList settledRun
-settled-no x e = rw e
+-- a result that is not whole publishes nothing
+whole-no : (x : Result) → isWhole (x .step .laptop) ≡ false → publishedIfWhole x ≡ x
+unfolding stepIfWhole listIfWhole runIfWhole
+whole-no x e = rw e
 
-settled-yes : (x : Result) → isWhole (x .step .laptop) ≡ true →
-    settled x ≡
+whole-yes : (x : Result) → isWhole (x .step .laptop) ≡ true →
+    publishedIfWhole x ≡
     record {
       step = record { refusal = x .step .refusal; length = x .step .length; told = x .step .told; laptop = published (x .step .laptop) };
       after =
           memory (x .after .svids) (x .after .modes) (x .after .identity) (x .after .run) (x .after .svids) (x .after .modes) (x .after .identity)
           (copied (take (x .step .laptop .gathered .count) (x .after .modes)) (x .after .run) 0 (x .after .heldRun)) (x .after .entered);
     }
-unfolding settledStep settledList settledRun
-settled-yes x e = rw e
+unfolding stepIfWhole listIfWhole runIfWhole
+whole-yes x e = rw e
 
 not-done : (l : Laptop) → (l .candidate ≡ Absent) ⊎ (l .candidate ≡ Open) → isWhole l ≡ false
 unfolding isWhole
 not-done l (inl e) = rw e
 not-done l (inr e) = rw e
 
-not-filled : (l : Laptop) → l .filled < l .gathered .count → isWhole l ≡ false
+not-stored : (l : Laptop) → l .stored < l .gathered .count → isWhole l ≡ false
 unfolding isWhole
-not-filled l h = go (isDone (l .candidate))
+not-stored l h = go (isDone (l .candidate))
   where
-    go : (t : Bool) → (t && leb (l .gathered .count) (l .filled)) ≡ false
-    go true = lt-leb (l .gathered .count) (l .filled) h
+    go : (t : Bool) → (t && leb (l .gathered .count) (l .stored)) ≡ false
+    go true = lt-leb (l .gathered .count) (l .stored) h
     go false = refl
 
-is-filled : (l : Laptop) → l .candidate ≡ Done → l .gathered .count ≤ l .filled → isWhole l ≡ true
+is-stored : (l : Laptop) → l .candidate ≡ Done → l .gathered .count ≤ l .stored → isWhole l ≡ true
 unfolding isWhole
-is-filled l e h = rw e (le-leb (l .gathered .count) (l .filled) h)
+is-stored l e h = rw e (le-leb (l .gathered .count) (l .stored) h)
 
 module _ (l : Laptop) (m : Memory) where
   -- Identity
   pub identity-heard : (objects : List ℕ) →
       hearAnswer l m (reply identityRequest ack objects) ≡
       record {
-        step = turnedTo Told·Nothing (opened (length objects) l);
+        step = acceptedWith Told·Nothing (opened (length objects) l);
         after =
             memory (replicate 72 0) (m .modes) (padded objects) (m .run) (m .heldSvids) (m .heldModes) (m .heldIdentity) (m .heldRun) (m .entered);
       }
   unfolding hearAnswer hearIdentity
   identity-heard objects = refl
 
-  pub identity-busy : hearAnswer l m (reply identityRequest busy []) ≡ only m (turnedTo Told·Nothing (dropped l))
+  pub identity-busy : hearAnswer l m (reply identityRequest busy []) ≡ only m (acceptedWith Told·Nothing (dropped l))
   unfolding hearAnswer hearIdentity
   identity-busy = refl
 
   -- SVIDs
   module _ (open-list : l .candidate ≡ Open) where
-    pub svids-busy : hearAnswer l m (reply (discover pdSid svidsCommand) busy []) ≡ only m (turnedTo Told·Nothing (ended l))
-    unfolding hearAnswer hearSvids
-    svids-busy = settled-no _ (not-done (ended l) (inr open-list))
+    pub svids-busy : hearAnswer l m (reply (discover pdSid svidsCommand) busy []) ≡ only m (acceptedWith Told·Nothing (ended l))
+    unfolding hearAnswer hearSvids publishing
+    svids-busy = refl
 
     pub svids-nak : l .gathered .count ≡ 0 →
         hearAnswer l m (reply (discover pdSid svidsCommand) nak []) ≡
         record {
-          step = turnedTo Told·Nothing (published (gatheredTo Done 0 l));
+          step = acceptedWith Told·Nothing (published (gatheredTo Done 0 l));
           after =
               memory (m .svids) (m .modes) (m .identity) (m .run) (m .svids) (m .modes) (m .identity)
               (copied (take 0 (m .modes)) (m .run) 0 (m .heldRun)) (m .entered);
         }
-    unfolding hearAnswer hearSvids
-    svids-nak e = rw e (settled-yes _ (is-filled (gatheredTo Done 0 l) refl (omega arith)))
+    unfolding hearAnswer hearSvids noneGathered publishing
+    svids-nak e = rw (e, open-list) (whole-yes _ (is-stored (gatheredTo Done 0 l) refl (omega arith)))
 
     -- a page, counted
     abbrev counted-in : Laptop
@@ -126,18 +126,18 @@ module _ (l : Laptop) (m : Memory) where
     module _ (few : l .pages < 200) (objects : List ℕ) where
       page-taken : (g : Gathering) → takePage counted-in (m .svids) (halves objects) ≡ g → isWhole (g .step .laptop) ≡ false →
           hearAnswer l m (reply (discover pdSid svidsCommand) ack objects) ≡ withGathering m g
-      unfolding hearAnswer hearSvids
+      unfolding hearAnswer hearSvids publishing
       page-taken g e n =
-          ap (λ (x : Laptop). settled (withGathering m (takePage x (m .svids) (halves objects)))) (sym (counted-more l (omega arith))) ∙
-          ap (λ (x : Gathering). settled (withGathering m x)) e ∙ settled-no (withGathering m g) n
+          ap (λ (x : Laptop). publishedIfWhole (withGathering m (takePage x (m .svids) (halves objects)))) (sym (counted-more l (omega arith))) ∙
+          ap (λ (x : Gathering). publishedIfWhole (withGathering m x)) e ∙ whole-no (withGathering m g) n
 
       pub page-more : verdict gathered (halves objects) ≡ More → l .pages + 1 < 200 →
           hearAnswer l m (reply (discover pdSid svidsCommand) ack objects) ≡
-          withGathering m (gathering (turnedTo Told·Nothing (gatheredTo Open (length gathered + 12) counted-in)) (sets (m .svids) (length gathered) (halves objects)))
+          withGathering m (gathering (acceptedWith Told·Nothing (gatheredTo Open (length gathered + 12) counted-in)) (sets (m .svids) (length gathered) (halves objects)))
       page-more e h = page-taken _ (take-full counted-in (m .svids) (halves objects) gathered refl (verdict gathered (halves objects)) refl e h) (not-done _ (inr refl))
 
       pub page-again : verdict gathered (halves objects) ≡ Repeat → l .pages + 1 < 200 →
-          hearAnswer l m (reply (discover pdSid svidsCommand) ack objects) ≡ withGathering m (gathering (turnedTo Told·Nothing (ended counted-in)) (m .svids))
+          hearAnswer l m (reply (discover pdSid svidsCommand) ack objects) ≡ withGathering m (gathering (acceptedWith Told·Nothing (ended counted-in)) (m .svids))
       page-again e h = page-taken _ (take-repeat counted-in (m .svids) (halves objects) gathered refl (verdict gathered (halves objects)) refl e h) (not-done _ (inr open-list))
 
       pub page-fourteen : (verdict gathered (halves objects) ≡ More) ⊎ (verdict gathered (halves objects) ≡ Repeat) → 200 ≤ l .pages + 1 →
@@ -145,41 +145,41 @@ module _ (l : Laptop) (m : Memory) where
       page-fourteen (inl e) h = page-taken _ (take-full-last counted-in (m .svids) (halves objects) gathered refl (verdict gathered (halves objects)) refl e h) (not-done _ (inl refl))
       page-fourteen (inr e) h = page-taken _ (take-repeat-last counted-in (m .svids) (halves objects) gathered refl (verdict gathered (halves objects)) refl e h) (not-done _ (inl refl))
 
-      pub page-last : (n : ℕ) → verdict gathered (halves objects) ≡ Ends n → l .filled < length gathered + n →
+      pub page-last : (n : ℕ) → verdict gathered (halves objects) ≡ Ends n → l .stored < length gathered + n →
           hearAnswer l m (reply (discover pdSid svidsCommand) ack objects) ≡
-          withGathering m (gathering (turnedTo Told·Nothing (gatheredTo Done (length gathered + n) counted-in)) (sets (m .svids) (length gathered) (take n (halves objects))))
-      page-last n e h = page-taken _ (take-ending counted-in (m .svids) (halves objects) gathered refl (verdict gathered (halves objects)) refl n e) (not-filled _ h)
+          withGathering m (gathering (acceptedWith Told·Nothing (gatheredTo Done (length gathered + n) counted-in)) (sets (m .svids) (length gathered) (take n (halves objects))))
+      page-last n e h = page-taken _ (take-ending counted-in (m .svids) (halves objects) gathered refl (verdict gathered (halves objects)) refl n e) (not-stored _ h)
 
   -- Modes
   module _ (svid : ℕ) where
-    pub modes-busy : l .filled < l .gathered .count → hearAnswer l m (reply (discover svid modesCommand) busy []) ≡ only m (turnedTo Told·Nothing (ended l))
-    unfolding hearAnswer hearModes
-    modes-busy h = settled-no _ (not-filled (ended l) h)
+    pub modes-busy : hearAnswer l m (reply (discover svid modesCommand) busy []) ≡ only m (acceptedWith Told·Nothing (ended l))
+    unfolding hearAnswer hearModes publishing
+    modes-busy = refl
 
     abbrev stored : List ℕ → Result
     stored words =
-        withFilling m
-        (filling (turnedTo Told·Nothing (filledTo (l .filled + 1) l)) (set (m .modes) (l .filled) (length words)) (sets (m .run) (l .filled * 6) words))
+        withStoring m
+        (storing (acceptedWith Told·Nothing (storedTo (l .stored + 1) l)) (set (m .modes) (l .stored) (length words)) (sets (m .run) (l .stored * 6) words))
 
-    modes-stored : (words : List ℕ) → l .filled < 72 → hearAnswer l m (reply (discover svid modesCommand) ack words) ≡ settled (stored words)
-    unfolding hearAnswer hearModes storeModes
-    modes-stored words h = rw (lt-ltb (l .filled) 72 h)
+    modes-stored : (words : List ℕ) → l .stored < 72 → hearAnswer l m (reply (discover svid modesCommand) ack words) ≡ publishedIfWhole (stored words)
+    unfolding hearAnswer hearModes storeModes publishing
+    modes-stored words h = rw (lt-ltb (l .stored) 72 h)
 
-    pub modes-more : (words : List ℕ) → l .filled < 72 → l .filled + 1 < l .gathered .count →
+    pub modes-more : (words : List ℕ) → l .stored < 72 → l .stored + 1 < l .gathered .count →
         hearAnswer l m (reply (discover svid modesCommand) ack words) ≡ stored words
-    modes-more words h less = modes-stored words h ∙ settled-no (stored words) (not-filled (filledTo (l .filled + 1) l) less)
+    modes-more words h less = modes-stored words h ∙ whole-no (stored words) (not-stored (storedTo (l .stored + 1) l) less)
 
-    pub modes-last : (words : List ℕ) → l .filled < 72 → l .candidate ≡ Done → l .gathered .count ≤ l .filled + 1 →
+    pub modes-last : (words : List ℕ) → l .stored < 72 → l .candidate ≡ Done → l .gathered .count ≤ l .stored + 1 →
         hearAnswer l m (reply (discover svid modesCommand) ack words) ≡
         record {
-          step = turnedTo Told·Nothing (published (filledTo (l .filled + 1) l));
+          step = acceptedWith Told·Nothing (published (storedTo (l .stored + 1) l));
           after =
-              memory (m .svids) (set (m .modes) (l .filled) (length words)) (m .identity) (sets (m .run) (l .filled * 6) words) (m .svids)
-              (set (m .modes) (l .filled) (length words)) (m .identity)
-              (copied (take (l .gathered .count) (set (m .modes) (l .filled) (length words))) (sets (m .run) (l .filled * 6) words) 0 (m .heldRun))
+              memory (m .svids) (set (m .modes) (l .stored) (length words)) (m .identity) (sets (m .run) (l .stored * 6) words) (m .svids)
+              (set (m .modes) (l .stored) (length words)) (m .identity)
+              (copied (take (l .gathered .count) (set (m .modes) (l .stored) (length words))) (sets (m .run) (l .stored * 6) words) 0 (m .heldRun))
               (m .entered);
         }
-    modes-last words h e least = modes-stored words h ∙ settled-yes (stored words) (is-filled (filledTo (l .filled + 1) l) e least)
+    modes-last words h e least = modes-stored words h ∙ whole-yes (stored words) (is-stored (storedTo (l .stored + 1) l) e least)
 
   -- Enter and Exit
   module _ (r : Request) (late : 4 ≤ r .command) where
@@ -192,13 +192,13 @@ module _ (l : Laptop) (m : Memory) where
     not-three : eqb (r .command) 3 ≡ false
     not-three = ne-eqb (r .command) 3 (λ e. omega arith)
 
-    pub mode-busy : hearAnswer l m (reply r busy []) ≡ only m (turnedTo (turnedDown 3 r) (ended l))
+    pub mode-busy : hearAnswer l m (reply r busy []) ≡ only m (acceptedWith (declinedAs 3 r) (ended l))
     unfolding hearAnswer hearMode
     mode-busy = rw (not-one, not-two, not-three)
 
     pub mode-marked : hearAnswer l m (reply r ack []) ≡
         record {
-          step = turnedTo Told·Nothing (ended l);
+          step = acceptedWith Told·Nothing (ended l);
           after =
               memory (m .svids) (m .modes) (m .identity) (m .run) (m .heldSvids) (m .heldModes) (m .heldIdentity) (m .heldRun)
               (marksAfter (heldList (l .held) (m .heldSvids)) (m .entered) (r .svid) (r .command) (r .position));

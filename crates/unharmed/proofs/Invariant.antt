@@ -62,7 +62,7 @@ module _ (modesOf : ℕ → List ℕ) (d : Dock) where
   dockAt q t = withStanding t (withPage q d)
 
   abbrev pub messageOf : FairAnswer → Message
-  messageOf identityAck = reply identityRequest ack (take (d .objects) (d .identity))
+  messageOf identityAck = reply identityRequest ack (take (d .extent) (d .identity))
   messageOf (pageAck p) = reply (discover pdSid svidsCommand) ack (page (listed d) p)
   messageOf (modesAck svid) = reply (discover svid modesCommand) ack (modesOf svid)
   messageOf (modeAck r) = reply r ack []
@@ -103,18 +103,18 @@ module _ (modesOf : ℕ → List ℕ) (d : Dock) where
   FateFits t q (arrived b) = Unit
 
   -- the list is done: it is the dock's, the modes gathered so far are, and the pages add up
-  pub record Complete (size : Size) (filled pages : ℕ) (m : Memory) (v : Carried) (z : ℕ) : Type 0 where
-    pub same-identity : take (size .objects) (m .identity) ≡ take (d .objects) (d .identity)
+  pub record Complete (size : Size) (stored pages : ℕ) (m : Memory) (v : Carried) (z : ℕ) : Type 0 where
+    pub same-identity : take (size .extent) (m .identity) ≡ take (d .extent) (d .identity)
     pub same-list : take (size .count) (m .svids) ≡ listed d
-    pub same-modes : (i : ℕ) → i < filled → modesAt (m .modes) (m .run) i ≡ modesOf (getD (listed d) i 0)
+    pub same-modes : (i : ℕ) → i < stored → modesAt (m .modes) (m .run) i ≡ modesOf (getD (listed d) i 0)
     pub sum : pages ≡ length (listed d) / 12 + 1 + z
     pub settled : Settled v
 
   abbrev pub CandidateIs : Candidate → Size → ℕ → ℕ → Memory → Standing → ℕ → Carried → ℕ → Type 0
-  CandidateIs Absent size filled pages m t q v z = Unit
-  CandidateIs Open size filled pages m t q v z =
-      (take (size .objects) (m .identity) ≡ take (d .objects) (d .identity)) × Course (listed d) (take (size .count) (m .svids)) pages t q v z
-  CandidateIs Done size filled pages m t q v z = Complete size filled pages m v z
+  CandidateIs Absent size stored pages m t q v z = Unit
+  CandidateIs Open size stored pages m t q v z =
+      (take (size .extent) (m .identity) ≡ take (d .extent) (d .identity)) × Course (listed d) (take (size .count) (m .svids)) pages t q v z
+  CandidateIs Done size stored pages m t q v z = Complete size stored pages m v z
 
   module _ (old : Holding) where
     abbrev pub HeldIs : Laptop → Memory → Type 0
@@ -122,7 +122,7 @@ module _ (modesOf : ℕ → List ℕ) (d : Dock) where
 
     pub record Invariant (l : Laptop) (m : Memory) (way : Way) (q : ℕ) (t : Standing) (v : Carried) (z : ℕ) : Type 0 where
       pub formed : WellFormed l m
-      pub candidate-is : CandidateIs (l .candidate) (l .gathered) (l .filled) (l .pages) m t q v z
+      pub candidate-is : CandidateIs (l .candidate) (l .gathered) (l .stored) (l .pages) m t q v z
       pub held-is : HeldIs l m
       pub way-fits : WayFits (l .wait) way
       pub fate-fits : FateFits t q v

@@ -15,24 +15,24 @@ use Rattle.laptop.specs.State.{Memory}
 use Rattle.laptop.specs.declared.Laptop.{Laptop}
 use Rattle.laptop.specs.declared.Wait.the-variants.{Answer}
 use Rattle.laptop_laws.specs.WellFormed.{WellFormed}
+use Rattle.laptop_laws.proofs.Fitting.{fits-is}
 use Rattle.link.specs.Demand.{Meets}
 use Rattle.unharmed.proofs.Arrival.{Arrival}
 use Rattle.unharmed.proofs.Course.{FairAnswer, identityAck, pageAck, modesAck, modeAck, listNak, busyTo, Carried}
 use Rattle.unharmed.proofs.Hears.{hear-fit, hear-late, hear-ignored, identity-heard}
 use Rattle.unharmed.proofs.Invariant.{messageOf, Gave, Shaped, CandidateIs}
-use Rattle.unharmed.proofs.Awaited.{fits-is}
 use Rattle.unharmed.proofs.Landing.{ignored-lands, late-lands, LandsOf}
 use Rattle.unharmed.proofs.ModesLanding.{modes-landed}
 use Rattle.unharmed.proofs.OtherLanding.{identity-lands, nak-landed, mode-landed, busy-landed}
 use Rattle.unharmed.proofs.PageLanding.{svids-landed}
 
 module _ (modesOf : ℕ → List ℕ) (d : Dock) (meets : Meets modesOf d) (l : Laptop) (m : Memory) (q : ℕ) (t : Standing) (z : ℕ) (v : Carried)
-    (formed : WellFormed l m) (candidate : CandidateIs modesOf d (l .candidate) (l .gathered) (l .filled) (l .pages) m t q v z) where
+    (formed : WellFormed l m) (candidate : CandidateIs modesOf d (l .candidate) (l .gathered) (l .stored) (l .pages) m t q v z) where
   -- all of them
   answer-landed : (a : FairAnswer) (shaped : Shaped modesOf d a) (gave : Gave modesOf d a q) (arrival : Arrival (listed d) t q z a v) →
       l .wait ≡ Answer (requestOf (messageOf modesOf d a .head)) → LandsOf modesOf d meets l m q t z v formed candidate a shaped gave arrival (hearAnswer l m (messageOf modesOf d a))
   answer-landed identityAck shaped gave arrival waits =
-      subst (LandsOf modesOf d meets l m q t z v formed candidate identityAck shaped gave arrival) (sym (identity-heard l m (take (d .objects) (d .identity)))) (identity-lands modesOf d meets l m q t z v formed candidate shaped gave arrival waits)
+      subst (LandsOf modesOf d meets l m q t z v formed candidate identityAck shaped gave arrival) (sym (identity-heard l m (take (d .extent) (d .identity)))) (identity-lands modesOf d meets l m q t z v formed candidate shaped gave arrival waits)
   answer-landed (pageAck p) shaped gave arrival waits = svids-landed modesOf d meets l m q t z v formed candidate p shaped gave arrival waits
   answer-landed (modesAck svid) shaped gave arrival waits = modes-landed modesOf d meets l m q t z v formed candidate svid shaped gave arrival waits
   answer-landed (modeAck r) shaped gave arrival waits = mode-landed modesOf d meets l m q t z v formed candidate r shaped gave arrival waits

@@ -13,10 +13,10 @@ use Rattle.dock.specs.Data.{listed}
 use Rattle.dock.specs.declared.Dock.{Dock}
 use Rattle.dock.specs.declared.Standing.{Standing}
 use Rattle.catalogue.specs.Bytes.{holding as holds}
-use Rattle.laptop.specs.Calls.{refusedBy, turnedTo}
-use Rattle.hearing.specs.Hearing.{Result, only, fits, isOpen, isLatePage}
+use Rattle.laptop.specs.Calls.{refusedBy, acceptedWith}
+use Rattle.hearing.specs.Hearing.{Result, only, fits, isLatePage}
 use Rattle.owner.specs.Owner.{isAbsent}
-use Rattle.laptop.specs.State.{Memory, ended, dropped}
+use Rattle.laptop.specs.State.{isOpen, Memory, ended, dropped}
 use Rattle.laptop.specs.declared.Candidate.{Candidate}
 use Rattle.laptop.specs.declared.Candidate.the-variants.{Absent, Open, Done}
 use Rattle.laptop.specs.declared.Laptop.{Laptop}
@@ -26,7 +26,7 @@ use Rattle.laptop.specs.declared.Wait.the-variants.{Nothing}
 use Rattle.laptop_laws.specs.Holding.{holding}
 use Rattle.laptop_laws.specs.WellFormed.{awaitsIdentity, WellFormed}
 use Rattle.link.specs.Demand.{Meets, whole, heldIn}
-use Rattle.unharmed.specs.LastAnswer.{isLastHead}
+use Rattle.unharmed.proofs.LastAnswer.{isLastHead}
 use Rattle.link.specs.Link.{isUnsure, opens}
 use Rattle.unharmed.proofs.Arrival.{Arrival}
 use Rattle.unharmed.proofs.Course.{FairAnswer, isPage, Carried, Course}
@@ -40,7 +40,7 @@ last-unfit l h e = rw e
 
 module _ (modesOf : ℕ → List ℕ) (d : Dock) (meets : Meets modesOf d) (l : Laptop) (m : Memory) (q : ℕ) (t : Standing) (z : ℕ) (a : FairAnswer)
     (v : Carried) (formed : WellFormed l m) (shaped : Shaped modesOf d a) (gave : Gave modesOf d a q)
-    (candidate : CandidateIs modesOf d (l .candidate) (l .gathered) (l .filled) (l .pages) m t q v z) (arrival : Arrival (listed d) t q z a v) where
+    (candidate : CandidateIs modesOf d (l .candidate) (l .gathered) (l .stored) (l .pages) m t q v z) (arrival : Arrival (listed d) t q z a v) where
   abbrev pub head : Head
   head = messageOf modesOf d a .head
 
@@ -52,7 +52,7 @@ module _ (modesOf : ℕ → List ℕ) (d : Dock) (meets : Meets modesOf d) (l : 
 
   abbrev pub CandidateLands : Result → Carried → ℕ → Type 0
   CandidateLands r v′ z′ =
-      CandidateIs modesOf d (r .step .laptop .candidate) (r .step .laptop .gathered) (r .step .laptop .filled) (r .step .laptop .pages) (r .after) t q v′ z′
+      CandidateIs modesOf d (r .step .laptop .candidate) (r .step .laptop .gathered) (r .step .laptop .stored) (r .step .laptop .pages) (r .after) t q v′ z′
 
   abbrev pub EndLands : Result → Type 0
   EndLands r =
@@ -87,8 +87,8 @@ module _ (modesOf : ℕ → List ℕ) (d : Dock) (meets : Meets modesOf d) (l : 
   goes-on r b eu eo c = rw (eo, eu) c
 
   -- a candidate that stays as it is
-  stays : (c : Candidate) → (c ≡ Open → isPage a ≡ false) → CandidateIs modesOf d c (l .gathered) (l .filled) (l .pages) m t q v z →
-      CandidateIs modesOf d c (l .gathered) (l .filled) (l .pages) m t q (arrival .fate-then false) (arrival .lost-then false)
+  stays : (c : Candidate) → (c ≡ Open → isPage a ≡ false) → CandidateIs modesOf d c (l .gathered) (l .stored) (l .pages) m t q v z →
+      CandidateIs modesOf d c (l .gathered) (l .stored) (l .pages) m t q (arrival .fate-then false) (arrival .lost-then false)
   stays Absent n i = tt
   stays Open n i = (
     i .0,
@@ -113,9 +113,9 @@ module _ (modesOf : ℕ → List ℕ) (d : Dock) (meets : Meets modesOf d) (l : 
       record {
         candidate-lands =
             goes-on (only m (refusedBy 6 l)) false (unsure-no (only m (refusedBy 6 l)) refl)
-            (opens-no (only m (refusedBy 6 l)) (not-both (l .wait) (l .candidate) (l .pages) (l .filled) (m .svids) (formed .wait-fits)))
+            (opens-no (only m (refusedBy 6 l)) (not-both (l .wait) (l .candidate) (l .pages) (l .stored) (m .svids) (formed .wait-fits)))
             (stays (l .candidate)
-            (λ c. no-late-page l a modesOf d (l .wait) (l .pages) (l .filled) (m .svids) refl c (formed .wait-fits) e n) candidate);
+            (λ c. no-late-page l a modesOf d (l .wait) (l .pages) (l .stored) (m .svids) refl c (formed .wait-fits) e n) candidate);
         new-lands = λ x. absurd (false≢true (sym (last-unfit l head e) ∙ x));
         old-lands = λ x. refl;
         wait-lands = inr refl;
@@ -138,12 +138,12 @@ module _ (modesOf : ℕ → List ℕ) (d : Dock) (meets : Meets modesOf d) (l : 
       }
 
   -- the wait ends, and the candidate stays or there was none
-  pub ended-lands : (told : Told) → isLastHead l head ≡ false → (l .candidate ≡ Open → isPage a ≡ false) → Lands (only m (turnedTo told (ended l)))
+  pub ended-lands : (told : Told) → isLastHead l head ≡ false → (l .candidate ≡ Open → isPage a ≡ false) → Lands (only m (acceptedWith told (ended l)))
   ended-lands told last n =
       record {
         candidate-lands =
-            goes-on (only m (turnedTo told (ended l))) false (unsure-no (only m (turnedTo told (ended l))) refl)
-            (opens-no (only m (turnedTo told (ended l))) (not-both (l .wait) (l .candidate) (l .pages) (l .filled) (m .svids) (formed .wait-fits)))
+            goes-on (only m (acceptedWith told (ended l))) false (unsure-no (only m (acceptedWith told (ended l))) refl)
+            (opens-no (only m (acceptedWith told (ended l))) (not-both (l .wait) (l .candidate) (l .pages) (l .stored) (m .svids) (formed .wait-fits)))
             (stays (l .candidate) n candidate);
         new-lands = λ x. absurd (false≢true (sym last ∙ x));
         old-lands = λ x. refl;
@@ -153,7 +153,7 @@ module _ (modesOf : ℕ → List ℕ) (d : Dock) (meets : Meets modesOf d) (l : 
         end-lands = λ x y. absurd (false≢true (sym x ∙ y));
       }
 
-  pub dropped-lands : isLastHead l head ≡ false → l .candidate ≡ Absent → Lands (only m (turnedTo Told·Nothing (dropped l)))
+  pub dropped-lands : isLastHead l head ≡ false → l .candidate ≡ Absent → Lands (only m (acceptedWith Told·Nothing (dropped l)))
   dropped-lands last c =
       record {
         candidate-lands = tt;
@@ -167,6 +167,6 @@ module _ (modesOf : ℕ → List ℕ) (d : Dock) (meets : Meets modesOf d) (l : 
 
 -- the same, for one answer or another
 module _ (modesOf : ℕ → List ℕ) (d : Dock) (meets : Meets modesOf d) (l : Laptop) (m : Memory) (q : ℕ) (t : Standing) (z : ℕ) (v : Carried)
-    (formed : WellFormed l m) (candidate : CandidateIs modesOf d (l .candidate) (l .gathered) (l .filled) (l .pages) m t q v z) where
+    (formed : WellFormed l m) (candidate : CandidateIs modesOf d (l .candidate) (l .gathered) (l .stored) (l .pages) m t q v z) where
   abbrev pub LandsOf : (a : FairAnswer) → Shaped modesOf d a → Gave modesOf d a q → Arrival (listed d) t q z a v → Result → Type 0
   LandsOf a shaped gave arrival r = Lands modesOf d meets l m q t z a v formed shaped gave candidate arrival r

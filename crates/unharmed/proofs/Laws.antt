@@ -23,7 +23,7 @@ use Rattle.laptop.specs.declared.Candidate.the-variants.{Absent}
 use Rattle.laptop.specs.declared.Laptop.{Laptop}
 use Rattle.laptop.specs.declared.Wait.{Wait}
 use Rattle.laptop.specs.declared.Wait.the-variants.{Nothing, Answer}
-use Rattle.laptop_laws.specs.Done.{Call, message, next, startOver, drop, enter, exit, timer, protocolError, decided}
+use Rattle.laptop_laws.specs.Effects.{Call, message, next, startOver, drop, enter, exit, timer, protocolError, decided}
 use Rattle.laptop_laws.specs.WellFormed.{WaitFits, WellFormed}
 use Rattle.laptop_laws.proofs.Laws.{keeps}
 use Rattle.link.specs.Demand.{Meets, AtRest, Begins, heldWords, OldOrWhole, NeverBad, RequestTaken}
@@ -108,7 +108,7 @@ module _ (modesOf : ℕ → List ℕ) (start : System) (meets : Meets modesOf (s
   pub no-candidate : start .laptop .candidate ≡ Absent
   no-candidate =
       identity-absent (start .laptop) next identityRequest (start .memory)
-      (subst (λ (w : Wait). WaitFits w (start .laptop .candidate) (start .laptop .pages) (start .laptop .filled) (start .memory .svids))
+      (subst (λ (w : Wait). WaitFits w (start .laptop .candidate) (start .laptop .pages) (start .laptop .stored) (start .memory .svids))
       (begins .identity-awaited) (begins .formed .wait-fits)) refl
 
   pub begun : Reached modesOf (start .dock) (heldWords start) start
@@ -119,7 +119,7 @@ module _ (modesOf : ℕ → List ℕ) (start : System) (meets : Meets modesOf (s
         formed = begins .formed;
         candidate-is =
             subst
-            (λ (c : Candidate). CandidateIs modesOf (start .dock) c (start .laptop .gathered) (start .laptop .filled) (start .laptop .pages) (start .memory) Ready (start .dock .page) nothing (start .lost))
+            (λ (c : Candidate). CandidateIs modesOf (start .dock) c (start .laptop .gathered) (start .laptop .stored) (start .laptop .pages) (start .memory) Ready (start .dock .page) nothing (start .lost))
             (sym no-candidate) tt;
         held-is = inl refl;
         way-fits =

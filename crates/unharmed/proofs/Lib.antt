@@ -1,4 +1,5 @@
 -- Old or whole, a file for each topic, in the order in which they build on each other.
+pub mod LastAnswer
 pub mod Bytes
 pub mod Course
 pub mod Arrival
@@ -8,7 +9,7 @@ pub mod AtDock
 pub mod Confirming
 pub mod AtLaptop
 pub mod Awaited
-pub mod Filling
+pub mod Storing
 pub mod Hears
 pub mod Landing
 pub mod PageLanding

@@ -16,12 +16,12 @@ use Rattle.dock.specs.Data.{listed}
 use Rattle.dock.specs.declared.Dock.{Dock}
 use Rattle.dock.specs.declared.Standing.{Standing}
 use Rattle.catalogue.specs.Bytes.{holding as holds}
-use Rattle.laptop.specs.Calls.{turnedTo}
+use Rattle.laptop.specs.Calls.{acceptedWith}
 use Rattle.laptop.specs.Catalogue.{Entry, modesAt, entriesFrom}
-use Rattle.hearing.specs.Answers.{filling, copied}
-use Rattle.hearing.specs.Hearing.{Result, withFilling, hearAnswer}
+use Rattle.hearing.specs.Answers.{storing, copied}
+use Rattle.hearing.specs.Hearing.{Result, withStoring, hearAnswer}
 use Rattle.owner.specs.Owner.{discover}
-use Rattle.laptop.specs.State.{Memory, memory, filledTo, published}
+use Rattle.laptop.specs.State.{Memory, memory, storedTo, published}
 use Rattle.laptop.specs.declared.Candidate.{Candidate}
 use Rattle.laptop.specs.declared.Candidate.the-variants.{Done}
 use Rattle.laptop.specs.declared.Laptop.{Laptop}
@@ -32,28 +32,28 @@ use Rattle.laptop_laws.specs.WellFormed.{Listed, CandidateFits, awaitsIdentity,
 use Rattle.laptop_laws.proofs.Behind.{below}
 use Rattle.laptop_laws.proofs.Copies.{catalogue-copied}
 use Rattle.link.specs.Demand.{Meets, whole, heldIn}
-use Rattle.unharmed.specs.LastAnswer.{isLastHead}
+use Rattle.unharmed.proofs.LastAnswer.{isLastHead}
 use Rattle.unharmed.proofs.Arrival.{Arrival}
 use Rattle.unharmed.proofs.Course.{modesAck, Carried}
-use Rattle.unharmed.proofs.Filling.{stored-here, stored-before, entries-are}
+use Rattle.unharmed.proofs.Storing.{stored-here, stored-before, entries-are}
 use Rattle.unharmed.proofs.Hears.{modes-more, modes-last}
 use Rattle.unharmed.proofs.Invariant.{messageOf, Gave, Shaped, Complete, CandidateIs}
 use Rattle.unharmed.proofs.Awaited.{or-no, with-modes, awaits}
 use Rattle.unharmed.proofs.Landing.{unsure-no, opens-no, goes-on, LandsOf}
 
 module _ (modesOf : ℕ → List ℕ) (d : Dock) (meets : Meets modesOf d) (l : Laptop) (m : Memory) (q : ℕ) (t : Standing) (z : ℕ) (v : Carried)
-    (formed : WellFormed l m) (candidate : CandidateIs modesOf d (l .candidate) (l .gathered) (l .filled) (l .pages) m t q v z) where
+    (formed : WellFormed l m) (candidate : CandidateIs modesOf d (l .candidate) (l .gathered) (l .stored) (l .pages) m t q v z) where
   -- Modes
   module _ (svid : ℕ) (shaped : Shaped modesOf d (modesAck svid)) (gave : Gave modesOf d (modesAck svid) q)
       (arrival : Arrival (listed d) t q z (modesAck svid) v) (waits : l .wait ≡ Answer (discover svid modesCommand)) where
-    pub modes-with : (l .candidate ≡ Done) × (svid ≡ getD (m .svids) (l .filled) 0)
-    modes-with = with-modes (l .candidate) (l .pages) (l .filled) (m .svids) svid (awaits l m formed (discover svid modesCommand) waits)
+    pub modes-with : (l .candidate ≡ Done) × (svid ≡ getD (m .svids) (l .stored) 0)
+    modes-with = with-modes (l .candidate) (l .pages) (l .stored) (m .svids) svid (awaits l m formed (discover svid modesCommand) waits)
 
-    pub complete : Complete modesOf d (l .gathered) (l .filled) (l .pages) m v z
-    complete = subst (λ (c : Candidate). CandidateIs modesOf d c (l .gathered) (l .filled) (l .pages) m t q v z) (modes-with .0) candidate
+    pub complete : Complete modesOf d (l .gathered) (l .stored) (l .pages) m v z
+    complete = subst (λ (c : Candidate). CandidateIs modesOf d c (l .gathered) (l .stored) (l .pages) m t q v z) (modes-with .0) candidate
 
-    pub done-fits : Listed (l .gathered) (l .filled) (m .svids) (m .modes) × (l .filled < l .gathered .count)
-    done-fits = subst (λ (c : Candidate). CandidateFits c (l .gathered) (l .pages) (l .filled) (m .svids) (m .modes)) (modes-with .0) (formed .candidate-fits)
+    pub done-fits : Listed (l .gathered) (l .stored) (m .svids) (m .modes) × (l .stored < l .gathered .count)
+    done-fits = subst (λ (c : Candidate). CandidateFits c (l .gathered) (l .pages) (l .stored) (m .svids) (m .modes)) (modes-with .0) (formed .candidate-fits)
 
     abbrev words : List ℕ
     words = modesOf svid
@@ -62,64 +62,64 @@ module _ (modesOf : ℕ → List ℕ) (d : Dock) (meets : Meets modesOf d) (l : 
     unfolding wellShaped
     few-words = omega (arith, shape-count (messageOf modesOf d (modesAck svid) .head) (length words + 1) shaped .1)
 
-    pub places-left : l .filled < 72
+    pub places-left : l .stored < 72
     places-left = omega (arith, done-fits .1, done-fits .0 .count-fits)
 
     abbrev modesNow : List ℕ
-    modesNow = set (m .modes) (l .filled) (length words)
+    modesNow = set (m .modes) (l .stored) (length words)
 
     abbrev runNow : List ℕ
-    runNow = sets (m .run) (l .filled * 6) words
+    runNow = sets (m .run) (l .stored * 6) words
 
-    pub named : svid ≡ getD (listed d) (l .filled) 0
+    pub named : svid ≡ getD (listed d) (l .stored) 0
     named =
-        modes-with .1 ∙ sym (getD-take (l .gathered .count) (m .svids) (l .filled) 0 (done-fits .1)) ∙
-        ap (λ (list : List ℕ). getD list (l .filled) 0) (complete .same-list)
+        modes-with .1 ∙ sym (getD-take (l .gathered .count) (m .svids) (l .stored) 0 (done-fits .1)) ∙
+        ap (λ (list : List ℕ). getD list (l .stored) 0) (complete .same-list)
 
     -- the modes of one SVID more
-    modes-now : (i : ℕ) → i < l .filled + 1 → modesAt modesNow runNow i ≡ modesOf (getD (listed d) i 0)
-    modes-now i h = go (eqb i (l .filled)) refl
+    modes-now : (i : ℕ) → i < l .stored + 1 → modesAt modesNow runNow i ≡ modesOf (getD (listed d) i 0)
+    modes-now i h = go (eqb i (l .stored)) refl
       where
-        room : l .filled * 6 + 6 ≤ length (m .run)
+        room : l .stored * 6 + 6 ≤ length (m .run)
         room = omega (arith, places-left, formed .lent .run-size)
 
-        place : l .filled < length (m .modes)
+        place : l .stored < length (m .modes)
         place = omega (arith, places-left, formed .lent .modes-size)
 
-        go : (b : Bool) → eqb i (l .filled) ≡ b → modesAt modesNow runNow i ≡ modesOf (getD (listed d) i 0)
+        go : (b : Bool) → eqb i (l .stored) ≡ b → modesAt modesNow runNow i ≡ modesOf (getD (listed d) i 0)
         go true e =
-            let same : i ≡ l .filled = eqb-true i (l .filled) e in
-            ap (modesAt modesNow runNow) same ∙ stored-here (m .modes) (m .run) words (l .filled) few-words room place ∙
+            let same : i ≡ l .stored = eqb-true i (l .stored) e in
+            ap (modesAt modesNow runNow) same ∙ stored-here (m .modes) (m .run) words (l .stored) few-words room place ∙
             ap modesOf (named ∙ ap (λ (n : ℕ). getD (listed d) n 0) (sym same))
         go false e =
-            let other = eqb-false i (l .filled) e in
-            let less : i < l .filled = below i (l .filled) h other in
-            stored-before (m .modes) (m .run) words (l .filled) few-words room place i less ∙ complete .same-modes i less
+            let other = eqb-false i (l .stored) e in
+            let less : i < l .stored = below i (l .stored) h other in
+            stored-before (m .modes) (m .run) words (l .stored) few-words room place i less ∙ complete .same-modes i less
 
-    pub modes-head : isLastHead l (messageOf modesOf d (modesAck svid) .head) ≡ eqb (l .filled + 1) (l .gathered .count)
+    pub modes-head : isLastHead l (messageOf modesOf d (modesAck svid) .head) ≡ eqb (l .stored + 1) (l .gathered .count)
     unfolding isLastHead
-    modes-head = rw (waits, eq-eqb svid svid refl) (or-no (eqb (l .filled + 1) (l .gathered .count)))
+    modes-head = rw (waits, eq-eqb svid svid refl) (or-no (eqb (l .stored + 1) (l .gathered .count)))
 
     not-identity-3 : awaitsIdentity (l .wait) ≡ false
     not-identity-3 = ap awaitsIdentity waits
 
     abbrev stored : Result
-    stored = withFilling m (filling (turnedTo Told·Nothing (filledTo (l .filled + 1) l)) modesNow runNow)
+    stored = withStoring m (storing (acceptedWith Told·Nothing (storedTo (l .stored + 1) l)) modesNow runNow)
 
     abbrev ModesLand : Result → Type 0
     ModesLand r = LandsOf modesOf d meets l m q t z v formed candidate (modesAck svid) shaped gave arrival r
 
-    stored-lands : l .filled + 1 < l .gathered .count → ModesLand stored
+    stored-lands : l .stored + 1 < l .gathered .count → ModesLand stored
     stored-lands less =
         let last : isLastHead l (messageOf modesOf d (modesAck svid) .head) ≡ false =
-        modes-head ∙ ne-eqb (l .filled + 1) (l .gathered .count) (λ e. omega arith) in
+        modes-head ∙ ne-eqb (l .stored + 1) (l .gathered .count) (λ e. omega arith) in
         record {
           candidate-lands =
               goes-on modesOf d meets l m q t z (modesAck svid) v formed shaped gave candidate arrival stored false
               (unsure-no modesOf d meets l m q t z (modesAck svid) v formed shaped gave candidate arrival stored refl)
               (opens-no modesOf d meets l m q t z (modesAck svid) v formed shaped gave candidate arrival stored (inl not-identity-3))
               (subst
-              (λ (c : Candidate). CandidateIs modesOf d c (l .gathered) (l .filled + 1) (l .pages) (stored .after) t q (arrival .fate-then false) (arrival .lost-then false))
+              (λ (c : Candidate). CandidateIs modesOf d c (l .gathered) (l .stored + 1) (l .pages) (stored .after) t q (arrival .fate-then false) (arrival .lost-then false))
               (sym (modes-with .0))
               (record {
                 same-identity = complete .same-identity;
@@ -139,15 +139,15 @@ module _ (modesOf : ℕ → List ℕ) (d : Dock) (meets : Meets modesOf d) (l : 
     abbrev publishes : Result
     publishes =
         record {
-          step = turnedTo Told·Nothing (published (filledTo (l .filled + 1) l));
+          step = acceptedWith Told·Nothing (published (storedTo (l .stored + 1) l));
           after =
               memory (m .svids) modesNow (m .identity) runNow (m .svids) modesNow (m .identity)
               (copied (take (l .gathered .count) modesNow) runNow 0 (m .heldRun)) (m .entered);
         }
 
-    whole-held : l .filled + 1 ≡ l .gathered .count → heldIn (holding (publishes .step .laptop) (publishes .after)) ≡ holds (whole modesOf d)
+    whole-held : l .stored + 1 ≡ l .gathered .count → heldIn (holding (publishes .step .laptop) (publishes .after)) ≡ holds (whole modesOf d)
     whole-held e =
-        let room : 432 ≤ length runNow = omega (arith, length-sets (m .run) (l .filled * 6) words, formed .lent .run-size) in
+        let room : 432 ≤ length runNow = omega (arith, length-sets (m .run) (l .stored * 6) words, formed .lent .run-size) in
         ap holds
         (catalogue-copied (l .gathered) (m .identity) (m .svids) modesNow runNow (m .heldRun) (done-fits .0 .count-fits) room (formed .lent .held-run-size) ∙
         ap₂ (λ (i : List ℕ) (x : List Entry). record { identity = i; entries = x }) (complete .same-identity)
@@ -160,9 +160,9 @@ module _ (modesOf : ℕ → List ℕ) (d : Dock) (meets : Meets modesOf d) (l : 
         none-more : (j : ℕ) → 0 + j ≡ j
         none-more j = omega arith
 
-    publish-lands : l .filled + 1 ≡ l .gathered .count → ModesLand publishes
+    publish-lands : l .stored + 1 ≡ l .gathered .count → ModesLand publishes
     publish-lands e =
-        let last : isLastHead l (messageOf modesOf d (modesAck svid) .head) ≡ true = modes-head ∙ eq-eqb (l .filled + 1) (l .gathered .count) e in
+        let last : isLastHead l (messageOf modesOf d (modesAck svid) .head) ≡ true = modes-head ∙ eq-eqb (l .stored + 1) (l .gathered .count) e in
         record {
           candidate-lands = tt;
           new-lands = λ x. whole-held e;
@@ -174,12 +174,12 @@ module _ (modesOf : ℕ → List ℕ) (d : Dock) (meets : Meets modesOf d) (l : 
         }
 
     pub modes-landed : ModesLand (hearAnswer l m (messageOf modesOf d (modesAck svid)))
-    modes-landed = go (ltb (l .filled + 1) (l .gathered .count)) refl
+    modes-landed = go (ltb (l .stored + 1) (l .gathered .count)) refl
       where
-        go : (b : Bool) → ltb (l .filled + 1) (l .gathered .count) ≡ b → ModesLand (hearAnswer l m (messageOf modesOf d (modesAck svid)))
+        go : (b : Bool) → ltb (l .stored + 1) (l .gathered .count) ≡ b → ModesLand (hearAnswer l m (messageOf modesOf d (modesAck svid)))
         go true b =
-            let less = ltb-true (l .filled + 1) (l .gathered .count) b in
+            let less = ltb-true (l .stored + 1) (l .gathered .count) b in
             subst ModesLand (sym (modes-more l m svid words places-left less)) (stored-lands less)
         go false b =
-            let least = ltb-false (l .filled + 1) (l .gathered .count) b in
+            let least = ltb-false (l .stored + 1) (l .gathered .count) b in
             subst ModesLand (sym (modes-last l m svid words places-left (modes-with .0) least)) (publish-lands (omega (arith, done-fits .1)))

@@ -12,7 +12,7 @@ use Rattle.messages.specs.Requests.{svidsCommand, modesCommand, sameRequest}
 use Rattle.messages.specs.Table.{pdSid}
 use Rattle.messages.specs.declared.request.Request.{Request}
 use Rattle.dock.specs.Data.{listed, goodIdentity}
-use Rattle.dock.specs.Dock.{Decision, refuses, sends, sending, isEmpty, givePage, giveIdentity, giveModes, giveOther, bare, decidePolicy, decideAnswer}
+use Rattle.dock.specs.Dock.{Decision, refuses, sends, sending, isEmpty, givePage, giveIdentity, giveModes, giveOther, bare, decidePolicy, decidePolicyAnswer}
 use Rattle.dock.specs.declared.Dock.{Dock}
 use Rattle.dock.specs.declared.Policy.{Policy}
 use Rattle.dock.specs.declared.Policy.the-variants.{Give, Nak, Busy}
@@ -47,56 +47,56 @@ module _ (modesOf : ℕ → List ℕ) (d : Dock) (q : ℕ) where
   unfoldable pub asked-by : (r : Request) → Dock
   asked-by r = dockAt modesOf d q (Asking r)
 
-  identity-offered : q ≡ 0 → Offers (decideAnswer (asked-by identityRequest) (Asking identityRequest) Give identityRequest (brought modesOf Give identityRequest))
-  unfolding decideAnswer decidePolicy brought bare giveOther giveIdentity asked-by sending
-  identity-offered e = either (goodIdentity (d .objects)) _ _ (λ g. offers identityAck e refl) (λ g. declines 10 refl)
+  identity-offered : q ≡ 0 → Offers (decidePolicyAnswer (asked-by identityRequest) (Asking identityRequest) Give identityRequest (brought modesOf Give identityRequest))
+  unfolding decidePolicyAnswer decidePolicy brought bare giveOther giveIdentity asked-by sending
+  identity-offered e = either (goodIdentity (d .extent)) _ _ (λ g. offers identityAck e refl) (λ g. declines 10 refl)
 
-  svids-offered : Offers (decideAnswer (asked-by (discover pdSid svidsCommand)) (Asking (discover pdSid svidsCommand)) Give (discover pdSid svidsCommand) (brought modesOf Give (discover pdSid svidsCommand)))
-  unfolding decideAnswer decidePolicy brought bare giveOther givePage asked-by sending
+  svids-offered : Offers (decidePolicyAnswer (asked-by (discover pdSid svidsCommand)) (Asking (discover pdSid svidsCommand)) Give (discover pdSid svidsCommand) (brought modesOf Give (discover pdSid svidsCommand)))
+  unfolding decidePolicyAnswer decidePolicy brought bare giveOther givePage asked-by sending
   svids-offered =
       either (isEmpty (listed d)) _ _ (λ g. offers listNak (empty-list (listed d) g) refl) (λ g. offers (pageAck q) (refl, some-list (listed d) g) refl)
 
-  modes-offered : (svid : ℕ) → Offers (decideAnswer (asked-by (discover svid modesCommand)) (Asking (discover svid modesCommand)) Give (discover svid modesCommand) (brought modesOf Give (discover svid modesCommand)))
-  unfolding decideAnswer decidePolicy brought giveModes asked-by sending
+  modes-offered : (svid : ℕ) → Offers (decidePolicyAnswer (asked-by (discover svid modesCommand)) (Asking (discover svid modesCommand)) Give (discover svid modesCommand) (brought modesOf Give (discover svid modesCommand)))
+  unfolding decidePolicyAnswer decidePolicy brought giveModes asked-by sending
   modes-offered svid =
       rw (eq-eqb svid svid refl)
       (either (leb 1 (length (modesOf svid)) && leb (length (modesOf svid)) 6) _ _ (λ g. offers (modesAck svid) tt refl) (λ g. declines 10 refl))
 
-  mode-offered : (r : Request) → 4 ≤ r .command → Offers (decideAnswer (asked-by r) (Asking r) Give r (brought modesOf Give r))
-  unfolding decideAnswer decidePolicy brought bare giveOther asked-by sending
+  mode-offered : (r : Request) → 4 ≤ r .command → Offers (decidePolicyAnswer (asked-by r) (Asking r) Give r (brought modesOf Give r))
+  unfolding decidePolicyAnswer decidePolicy brought bare giveOther asked-by sending
   mode-offered r h =
       let one : eqb (r .command) 1 ≡ false = ne-eqb (r .command) 1 (λ e. omega arith) in
       let two : eqb (r .command) 2 ≡ false = ne-eqb (r .command) 2 (λ e. omega arith) in
       let three : eqb (r .command) 3 ≡ false = ne-eqb (r .command) 3 (λ e. omega arith) in
       rw (same-request r, three, one, two) (offers (modeAck r) h refl)
 
-  busy-offered : (r : Request) → Offers (decideAnswer (asked-by r) (Asking r) Busy r (brought modesOf Busy r))
-  unfolding decideAnswer decidePolicy brought bare asked-by sending
+  busy-offered : (r : Request) → Offers (decidePolicyAnswer (asked-by r) (Asking r) Busy r (brought modesOf Busy r))
+  unfolding decidePolicyAnswer decidePolicy brought bare asked-by sending
   busy-offered r = rw (same-request r) (offers (busyTo r) tt refl)
 
   nak-offered : listed d ≡ [] →
-      Offers (decideAnswer (asked-by (discover pdSid svidsCommand)) (Asking (discover pdSid svidsCommand)) Nak (discover pdSid svidsCommand) (brought modesOf Nak (discover pdSid svidsCommand)))
-  unfolding decideAnswer decidePolicy brought bare asked-by sending
+      Offers (decidePolicyAnswer (asked-by (discover pdSid svidsCommand)) (Asking (discover pdSid svidsCommand)) Nak (discover pdSid svidsCommand) (brought modesOf Nak (discover pdSid svidsCommand)))
+  unfolding decidePolicyAnswer decidePolicy brought bare asked-by sending
   nak-offered e = offers listNak e refl
 
-  given : (r : Request) → Known r q → Offers (decideAnswer (asked-by r) (Asking r) Give r (brought modesOf Give r))
+  given : (r : Request) → Known r q → Offers (decidePolicyAnswer (asked-by r) (Asking r) Give r (brought modesOf Give r))
   given r (known-identity e z) =
-      subst (λ (x : Request). Offers (decideAnswer (asked-by x) (Asking x) Give x (brought modesOf Give x))) (sym e) (identity-offered z)
-  given r (known-svids e) = subst (λ (x : Request). Offers (decideAnswer (asked-by x) (Asking x) Give x (brought modesOf Give x))) (sym e) svids-offered
+      subst (λ (x : Request). Offers (decidePolicyAnswer (asked-by x) (Asking x) Give x (brought modesOf Give x))) (sym e) (identity-offered z)
+  given r (known-svids e) = subst (λ (x : Request). Offers (decidePolicyAnswer (asked-by x) (Asking x) Give x (brought modesOf Give x))) (sym e) svids-offered
   given r (known-modes svid e) =
-      subst (λ (x : Request). Offers (decideAnswer (asked-by x) (Asking x) Give x (brought modesOf Give x))) (sym e) (modes-offered svid)
+      subst (λ (x : Request). Offers (decidePolicyAnswer (asked-by x) (Asking x) Give x (brought modesOf Give x))) (sym e) (modes-offered svid)
   given r (known-mode h f) = mode-offered r h
 
-  denied : (r : Request) → Known r q → r .command ≡ 2 → listed d ≡ [] → Offers (decideAnswer (asked-by r) (Asking r) Nak r (brought modesOf Nak r))
+  denied : (r : Request) → Known r q → r .command ≡ 2 → listed d ≡ [] → Offers (decidePolicyAnswer (asked-by r) (Asking r) Nak r (brought modesOf Nak r))
   denied r (known-identity e z) c l = absurd (omega (arith, ap (λ (x : Request). x .command) e))
   denied r (known-svids e) c l =
-      subst (λ (x : Request). Offers (decideAnswer (asked-by x) (Asking x) Nak x (brought modesOf Nak x))) (sym e) (nak-offered l)
+      subst (λ (x : Request). Offers (decidePolicyAnswer (asked-by x) (Asking x) Nak x (brought modesOf Nak x))) (sym e) (nak-offered l)
   denied r (known-modes svid e) c l = absurd (omega (arith, ap (λ (x : Request). x .command) e))
   denied r (known-mode h f) c l = absurd (omega arith)
 
   -- a fair policy's answer
   pub fair-offered : (policy : Policy) (r : Request) → Known r q → isFair policy r (listed d) ≡ true →
-      Offers (decideAnswer (asked-by r) (Asking r) policy r (brought modesOf policy r))
+      Offers (decidePolicyAnswer (asked-by r) (Asking r) policy r (brought modesOf policy r))
   unfolding isFair
   fair-offered Give r k f = given r k
   fair-offered Busy r k f = busy-offered r

@@ -22,13 +22,13 @@ use Rattle.dock.specs.Dock.{reply}
 use Rattle.dock.specs.declared.Dock.{Dock}
 use Rattle.dock.specs.declared.Standing.{Standing}
 use Rattle.catalogue.specs.Bytes.{holding as holds}
-use Rattle.laptop.specs.Calls.{turnedTo}
+use Rattle.laptop.specs.Calls.{acceptedWith}
 use Rattle.laptop.specs.Catalogue.{Entry, entriesFrom, heldList}
-use Rattle.hearing.specs.Answers.{turnedDown, copied}
-use Rattle.hearing.specs.Hearing.{Result, only, fits, isOpen, hearAnswer}
+use Rattle.hearing.specs.Answers.{declinedAs, copied}
+use Rattle.hearing.specs.Hearing.{Result, only, fits, hearAnswer}
 use Rattle.laptop.specs.Marks.{marksAfter}
 use Rattle.owner.specs.Owner.{discover}
-use Rattle.laptop.specs.State.{Memory, memory, gatheredList, ended, dropped, opened, gatheredTo, published, identityRequest}
+use Rattle.laptop.specs.State.{isOpen, Memory, memory, gatheredList, ended, dropped, opened, gatheredTo, published, identityRequest}
 use Rattle.laptop.specs.declared.Candidate.{Candidate}
 use Rattle.laptop.specs.declared.Candidate.the-variants.{Absent, Open, Done}
 use Rattle.laptop.specs.declared.Laptop.{Laptop}
@@ -38,7 +38,7 @@ use Rattle.laptop.specs.declared.Wait.the-variants.{Answer}
 use Rattle.laptop_laws.specs.Holding.{holding}
 use Rattle.laptop_laws.specs.WellFormed.{Listed, CandidateFits, WaitFits, WellFormed}
 use Rattle.link.specs.Demand.{Meets, entriesOf, whole, heldIn}
-use Rattle.unharmed.specs.LastAnswer.{isLastHead}
+use Rattle.unharmed.proofs.LastAnswer.{isLastHead}
 use Rattle.link.specs.Link.{isUnsure, opens}
 use Rattle.unharmed.proofs.Arrival.{Arrival}
 use Rattle.unharmed.proofs.Course.{identityAck, modeAck, listNak, busyTo, Carried, At, in-step, lost-one, Course, even, undecided, early}
@@ -48,12 +48,12 @@ use Rattle.unharmed.proofs.Awaited.{and-no, with-identity, with-svids, 
 use Rattle.unharmed.proofs.Landing.{unsure-no, ended-lands, dropped-lands, LandsOf}
 
 module _ (modesOf : ℕ → List ℕ) (d : Dock) (meets : Meets modesOf d) (l : Laptop) (m : Memory) (q : ℕ) (t : Standing) (z : ℕ) (v : Carried)
-    (formed : WellFormed l m) (candidate : CandidateIs modesOf d (l .candidate) (l .gathered) (l .filled) (l .pages) m t q v z) where
+    (formed : WellFormed l m) (candidate : CandidateIs modesOf d (l .candidate) (l .gathered) (l .stored) (l .pages) m t q v z) where
   -- Identity ACK opens an empty list
   module _ (shaped : Shaped modesOf d identityAck) (gave : Gave modesOf d identityAck q) (arrival : Arrival (listed d) t q z identityAck v)
       (waits : l .wait ≡ Answer identityRequest) where
     abbrev objects : List ℕ
-    objects = take (d .objects) (d .identity)
+    objects = take (d .extent) (d .identity)
 
     pub identity-last : isLastHead l (messageOf modesOf d identityAck .head) ≡ false
     unfolding isLastHead
@@ -70,14 +70,14 @@ module _ (modesOf : ℕ → List ℕ) (d : Dock) (meets : Meets modesOf d) (l : 
     abbrev opened-result : Result
     opened-result =
         record {
-          step = turnedTo Told·Nothing (opened (length objects) l);
+          step = acceptedWith Told·Nothing (opened (length objects) l);
           after =
               memory (replicate 72 0) (m .modes) (padded objects) (m .run) (m .heldSvids) (m .heldModes) (m .heldIdentity) (m .heldRun) (m .entered);
         }
 
     pub identity-lands : LandsOf modesOf d meets l m q t z v formed candidate identityAck shaped gave arrival opened-result
     identity-lands =
-        let absent = with-identity (l .candidate) (l .pages) (l .filled) (m .svids) (awaits l m formed identityRequest waits) in
+        let absent = with-identity (l .candidate) (l .pages) (l .stored) (m .svids) (awaits l m formed identityRequest waits) in
         let first : [] ≡ take (q * 12) (listed d) = ap (λ (n : ℕ). take (n * 12) (listed d)) (sym gave) in
         record {
           candidate-lands =
@@ -99,13 +99,13 @@ module _ (modesOf : ℕ → List ℕ) (d : Dock) (meets : Meets modesOf d) (l : 
     nak-last = rw waits
 
     pub nak-open : l .candidate ≡ Open
-    nak-open = with-svids (l .candidate) (l .pages) (l .filled) (m .svids) (awaits l m formed (discover pdSid svidsCommand) waits)
+    nak-open = with-svids (l .candidate) (l .pages) (l .stored) (m .svids) (awaits l m formed (discover pdSid svidsCommand) waits)
 
-    nak-is : (take (l .gathered .objects) (m .identity) ≡ take (d .objects) (d .identity)) × Course (listed d) (gatheredList l (m .svids)) (l .pages) t q v z
-    nak-is = subst (λ (c : Candidate). CandidateIs modesOf d c (l .gathered) (l .filled) (l .pages) m t q v z) nak-open candidate
+    nak-is : (take (l .gathered .extent) (m .identity) ≡ take (d .extent) (d .identity)) × Course (listed d) (gatheredList l (m .svids)) (l .pages) t q v z
+    nak-is = subst (λ (c : Candidate). CandidateIs modesOf d c (l .gathered) (l .stored) (l .pages) m t q v z) nak-open candidate
 
-    nak-fits : Listed (l .gathered) 0 (m .svids) (m .modes) × (l .pages < 200) × (l .filled ≡ 0)
-    nak-fits = subst (λ (c : Candidate). CandidateFits c (l .gathered) (l .pages) (l .filled) (m .svids) (m .modes)) nak-open (formed .candidate-fits)
+    nak-fits : Listed (l .gathered) 0 (m .svids) (m .modes) × (l .pages < 200) × (l .stored ≡ 0)
+    nak-fits = subst (λ (c : Candidate). CandidateFits c (l .gathered) (l .pages) (l .stored) (m .svids) (m .modes)) nak-open (formed .candidate-fits)
 
     nothing-listed : (n : ℕ) → gatheredList l (m .svids) ≡ take n (listed d) → l .gathered .count ≡ 0
     nothing-listed n e =
@@ -124,7 +124,7 @@ module _ (modesOf : ℕ → List ℕ) (d : Dock) (meets : Meets modesOf d) (l : 
     abbrev emptied : Result
     emptied =
         record {
-          step = turnedTo Told·Nothing (published (gatheredTo Done 0 l));
+          step = acceptedWith Told·Nothing (published (gatheredTo Done 0 l));
           after =
               memory (m .svids) (m .modes) (m .identity) (m .run) (m .svids) (m .modes) (m .identity)
               (copied (take 0 (m .modes)) (m .run) 0 (m .heldRun)) (m .entered);
@@ -161,12 +161,12 @@ module _ (modesOf : ℕ → List ℕ) (d : Dock) (meets : Meets modesOf d) (l : 
         rw (two, three) (and-no (fits (l .wait) (messageOf modesOf d (modeAck r) .head)))
 
     pub mode-absent : l .candidate ≡ Absent
-    mode-absent = with-mode (l .candidate) (l .pages) (l .filled) (m .svids) r gave (awaits l m formed r waits)
+    mode-absent = with-mode (l .candidate) (l .pages) (l .stored) (m .svids) r gave (awaits l m formed r waits)
 
     abbrev marked : Result
     marked =
         record {
-          step = turnedTo Told·Nothing (ended l);
+          step = acceptedWith Told·Nothing (ended l);
           after =
               memory (m .svids) (m .modes) (m .identity) (m .run) (m .heldSvids) (m .heldModes) (m .heldIdentity) (m .heldRun)
               (marksAfter (heldList (l .held) (m .heldSvids)) (m .entered) (r .svid) (r .command) (r .position));
@@ -177,7 +177,7 @@ module _ (modesOf : ℕ → List ℕ) (d : Dock) (meets : Meets modesOf d) (l : 
         record {
           candidate-lands =
               subst
-              (λ (c : Candidate). CandidateIs modesOf d c (l .gathered) (l .filled) (l .pages) (marked .after) t q (arrival .fate-then (isUnsure l (ended l) (dockAt modesOf d q t))) (cond (opens l (ended l)) 0 (arrival .lost-then (isUnsure l (ended l) (dockAt modesOf d q t)))))
+              (λ (c : Candidate). CandidateIs modesOf d c (l .gathered) (l .stored) (l .pages) (marked .after) t q (arrival .fate-then (isUnsure l (ended l) (dockAt modesOf d q t))) (cond (opens l (ended l)) 0 (arrival .lost-then (isUnsure l (ended l) (dockAt modesOf d q t)))))
               (sym mode-absent) tt;
           new-lands = λ x. absurd (false≢true (sym mode-last ∙ x));
           old-lands = λ x. refl;
@@ -201,24 +201,24 @@ module _ (modesOf : ℕ → List ℕ) (d : Dock) (meets : Meets modesOf d) (l : 
     abbrev BusyLands : Result → Type 0
     BusyLands x = LandsOf modesOf d meets l m q t z v formed candidate (busyTo r) shaped gave arrival x
 
-    kept-lands : (told : Told) → BusyLands (only m (turnedTo told (ended l)))
+    kept-lands : (told : Told) → BusyLands (only m (acceptedWith told (ended l)))
     kept-lands told = ended-lands modesOf d meets l m q t z (busyTo r) v formed shaped gave candidate arrival told busy-last (λ c. refl)
 
-    given-up-lands : l .candidate ≡ Absent → BusyLands (only m (turnedTo Told·Nothing (dropped l)))
+    given-up-lands : l .candidate ≡ Absent → BusyLands (only m (acceptedWith Told·Nothing (dropped l)))
     given-up-lands c = dropped-lands modesOf d meets l m q t z (busyTo r) v formed shaped gave candidate arrival busy-last c
 
     pub busy-landed : BusyLands (hearAnswer l m (messageOf modesOf d (busyTo r)))
     busy-landed = go (awaits l m formed r waits)
       where
-        go : WaitFits (Answer r) (l .candidate) (l .pages) (l .filled) (m .svids) → BusyLands (hearAnswer l m (messageOf modesOf d (busyTo r)))
+        go : WaitFits (Answer r) (l .candidate) (l .pages) (l .stored) (m .svids) → BusyLands (hearAnswer l m (messageOf modesOf d (busyTo r)))
         go (inl f) =
             subst BusyLands (sym (ap (λ (x : Request). hearAnswer l m (reply x busy [])) (f .0) ∙ identity-busy l m)) (given-up-lands (f .1))
         go (inr (inl f)) =
             subst BusyLands (sym (ap (λ (x : Request). hearAnswer l m (reply x busy [])) (f .0) ∙ svids-busy l m (f .1))) (kept-lands Told·Nothing)
         go (inr (inr (inl f))) =
-            let fit : Listed (l .gathered) (l .filled) (m .svids) (m .modes) × (l .filled < l .gathered .count) =
-            subst (λ (c : Candidate). CandidateFits c (l .gathered) (l .pages) (l .filled) (m .svids) (m .modes)) (f .1) (formed .candidate-fits) in
+            let fit : Listed (l .gathered) (l .stored) (m .svids) (m .modes) × (l .stored < l .gathered .count) =
+            subst (λ (c : Candidate). CandidateFits c (l .gathered) (l .pages) (l .stored) (m .svids) (m .modes)) (f .1) (formed .candidate-fits) in
             subst BusyLands
-            (sym (ap (λ (x : Request). hearAnswer l m (reply x busy [])) (f .0) ∙ modes-busy l m (getD (m .svids) (l .filled) 0) (fit .1)))
+            (sym (ap (λ (x : Request). hearAnswer l m (reply x busy [])) (f .0) ∙ modes-busy l m (getD (m .svids) (l .stored) 0)))
             (kept-lands Told·Nothing)
-        go (inr (inr (inr f))) = subst BusyLands (sym (mode-busy l m r (f .0))) (kept-lands (turnedDown 3 r))
+        go (inr (inr (inr f))) = subst BusyLands (sym (mode-busy l m r (f .0))) (kept-lands (declinedAs 3 r))

@@ -18,7 +18,7 @@ use Rattle.taking.proofs.Sizes.{more-fits, ends-fits}
 use Rattle.dock.specs.Data.{listed}
 use Rattle.dock.specs.declared.Dock.{Dock}
 use Rattle.dock.specs.declared.Standing.{Standing}
-use Rattle.laptop.specs.Calls.{refusedBy, turnedTo}
+use Rattle.laptop.specs.Calls.{refusedBy, acceptedWith}
 use Rattle.gathering.specs.Gathering.{Gathering, gathering}
 use Rattle.hearing.specs.Hearing.{Result, fits, withGathering, hearAnswer}
 use Rattle.owner.specs.Owner.{isAbsent, discover}
@@ -32,7 +32,7 @@ use Rattle.laptop_laws.specs.Holding.{holding}
 use Rattle.laptop_laws.specs.WellFormed.{Listed, CandidateFits, awaitsIdentity, WellFormed}
 use Rattle.laptop_laws.proofs.Behind.{sets-behind}
 use Rattle.link.specs.Demand.{Meets}
-use Rattle.unharmed.specs.LastAnswer.{isLastHead}
+use Rattle.unharmed.proofs.LastAnswer.{isLastHead}
 use Rattle.unharmed.proofs.Arrival.{Arrival}
 use Rattle.unharmed.proofs.Course.{pageAck, Carried, Course, Taken, grows, again, finishes, taken}
 use Rattle.unharmed.proofs.Hears.{page-more, page-again, page-fourteen, page-last}
@@ -41,7 +41,7 @@ use Rattle.unharmed.proofs.Awaited.{and-no, with-svids, awaits}
 use Rattle.unharmed.proofs.Landing.{unsure-page, opens-no, goes-on, LandsOf}
 
 module _ (modesOf : ℕ → List ℕ) (d : Dock) (meets : Meets modesOf d) (l : Laptop) (m : Memory) (q : ℕ) (t : Standing) (z : ℕ) (v : Carried)
-    (formed : WellFormed l m) (candidate : CandidateIs modesOf d (l .candidate) (l .gathered) (l .filled) (l .pages) m t q v z) where
+    (formed : WellFormed l m) (candidate : CandidateIs modesOf d (l .candidate) (l .gathered) (l .stored) (l .pages) m t q v z) where
   -- a page, while the list is open
   module _ (p : ℕ) (shaped : Shaped modesOf d (pageAck p)) (gave : Gave modesOf d (pageAck p) q) (arrival : Arrival (listed d) t q z (pageAck p) v)
       (waits : l .wait ≡ Answer (discover pdSid svidsCommand)) where
@@ -50,16 +50,16 @@ module _ (modesOf : ℕ → List ℕ) (d : Dock) (meets : Meets modesOf d) (l : 
     page-last-no = and-no (fits (l .wait) (messageOf modesOf d (pageAck p) .head))
 
     pub open-list : l .candidate ≡ Open
-    open-list = with-svids (l .candidate) (l .pages) (l .filled) (m .svids) (awaits l m formed (discover pdSid svidsCommand) waits)
+    open-list = with-svids (l .candidate) (l .pages) (l .stored) (m .svids) (awaits l m formed (discover pdSid svidsCommand) waits)
 
     abbrev gathered : List ℕ
     gathered = gatheredList l (m .svids)
 
-    pub open-is : (take (l .gathered .objects) (m .identity) ≡ take (d .objects) (d .identity)) × Course (listed d) gathered (l .pages) t q v z
-    open-is = subst (λ (c : Candidate). CandidateIs modesOf d c (l .gathered) (l .filled) (l .pages) m t q v z) open-list candidate
+    pub open-is : (take (l .gathered .extent) (m .identity) ≡ take (d .extent) (d .identity)) × Course (listed d) gathered (l .pages) t q v z
+    open-is = subst (λ (c : Candidate). CandidateIs modesOf d c (l .gathered) (l .stored) (l .pages) m t q v z) open-list candidate
 
-    pub open-fits : Listed (l .gathered) 0 (m .svids) (m .modes) × (l .pages < 200) × (l .filled ≡ 0)
-    open-fits = subst (λ (c : Candidate). CandidateFits c (l .gathered) (l .pages) (l .filled) (m .svids) (m .modes)) open-list (formed .candidate-fits)
+    pub open-fits : Listed (l .gathered) 0 (m .svids) (m .modes) × (l .pages < 200) × (l .stored ≡ 0)
+    open-fits = subst (λ (c : Candidate). CandidateFits c (l .gathered) (l .pages) (l .stored) (m .svids) (m .modes)) open-list (formed .candidate-fits)
 
     abbrev values : List ℕ
     values = halves (page (listed d) p)
@@ -80,7 +80,7 @@ module _ (modesOf : ℕ → List ℕ) (d : Dock) (meets : Meets modesOf d) (l : 
     page-lands : (g : Gathering) → holding (g .step .laptop) m ≡ holding l m → g .step .laptop .wait ≡ Nothing → g .step .length ≡ 0 →
         (g .step .refusal ≡ 0) ⊎ (g .step .refusal ≡ 14) → (isAbsent (g .step .laptop .candidate) ≡ true → g .step .refusal ≡ 14) →
         g .step .laptop .pages ≡ l .pages + 1 →
-        CandidateIs modesOf d (g .step .laptop .candidate) (g .step .laptop .gathered) (g .step .laptop .filled) (g .step .laptop .pages)
+        CandidateIs modesOf d (g .step .laptop .candidate) (g .step .laptop .gathered) (g .step .laptop .stored) (g .step .laptop .pages)
         (withGathering m g .after) t q (arrival .fate-then (not (isLast (listed d) q))) (arrival .lost-then (not (isLast (listed d) q))) →
         PageLands (withGathering m g)
     page-lands g h w n r e k c =
@@ -109,31 +109,31 @@ module _ (modesOf : ℕ → List ℕ) (d : Dock) (meets : Meets modesOf d) (l : 
 
     -- a full page that is new
     more-lands : verdict gathered values ≡ More → gathered ++ values ≡ take (p * 12 + 12) (listed d) → p * 12 + 12 ≤ length (listed d) → l .pages ≡ p + z →
-        PageLands (withGathering m (gathering (turnedTo Told·Nothing (gatheredTo Open (length gathered + 12) countedIn)) (sets (m .svids) (length gathered) values)))
+        PageLands (withGathering m (gathering (acceptedWith Told·Nothing (gatheredTo Open (length gathered + 12) countedIn)) (sets (m .svids) (length gathered) values)))
     more-lands e same h k =
         let fit = more-fits gathered values e in
         let size : length gathered + length values ≡ length gathered + 12 = omega (arith, fit .0) in
         let behind : take (length gathered + 12) (sets (m .svids) (length gathered) values) ≡ take (p * 12 + 12) (listed d) =
         ap (λ (n : ℕ). take n (sets (m .svids) (length gathered) values)) (sym size) ∙
         sets-behind (m .svids) (l .gathered .count) values (omega (arith, fit .1, formed .lent .svids-size)) ∙ same in
-        page-lands (gathering (turnedTo Told·Nothing (gatheredTo Open (length gathered + 12) countedIn)) (sets (m .svids) (length gathered) values)) refl refl
+        page-lands (gathering (acceptedWith Told·Nothing (gatheredTo Open (length gathered + 12) countedIn)) (sets (m .svids) (length gathered) values)) refl refl
         refl (inl refl) (λ x. absurd (false≢true x)) refl
         (open-is .0, arrival .more gathered (l .pages) p refl (open-is .1) _ (l .pages + 1) behind h (omega arith))
 
     -- the last one again
     again-lands : gathered ≡ take (p * 12 + 12) (listed d) → p * 12 + 12 ≤ length (listed d) → l .pages ≡ p + z →
-        PageLands (withGathering m (gathering (turnedTo Told·Nothing (ended countedIn)) (m .svids)))
+        PageLands (withGathering m (gathering (acceptedWith Told·Nothing (ended countedIn)) (m .svids)))
     again-lands same h k =
-        page-lands (gathering (turnedTo Told·Nothing (ended countedIn)) (m .svids)) refl refl refl (inl refl)
+        page-lands (gathering (acceptedWith Told·Nothing (ended countedIn)) (m .svids)) refl refl refl (inl refl)
         (λ x. absurd (false≢true (sym (ap isAbsent open-list) ∙ x))) refl
         (subst
-        (λ (c : Candidate). CandidateIs modesOf d c (l .gathered) (l .filled) (l .pages + 1) m t q (arrival .fate-then (not (isLast (listed d) q))) (arrival .lost-then (not (isLast (listed d) q))))
+        (λ (c : Candidate). CandidateIs modesOf d c (l .gathered) (l .stored) (l .pages + 1) m t q (arrival .fate-then (not (isLast (listed d) q))) (arrival .lost-then (not (isLast (listed d) q))))
         (sym open-list) (open-is .0, arrival .more gathered (l .pages) p refl (open-is .1) gathered (l .pages + 1) same h (omega arith)))
 
     -- the last page
     last-lands : (n : ℕ) → verdict gathered values ≡ Ends n → gathered ++ take n values ≡ listed d → isLast (listed d) p ≡ true →
         l .pages + 1 ≡ length (listed d) / 12 + 1 + z →
-        PageLands (withGathering m (gathering (turnedTo Told·Nothing (gatheredTo Done (length gathered + n) countedIn)) (sets (m .svids) (length gathered) (take n values))))
+        PageLands (withGathering m (gathering (acceptedWith Told·Nothing (gatheredTo Done (length gathered + n) countedIn)) (sets (m .svids) (length gathered) (take n values))))
     last-lands n e same last k =
         let fit = ends-fits gathered values n e in
         let size : length gathered + length (take n values) ≡ length gathered + n = ap (λ (x : ℕ). length gathered + x) (length-take-le n values (fit .0)) in
@@ -141,7 +141,7 @@ module _ (modesOf : ℕ → List ℕ) (d : Dock) (meets : Meets modesOf d) (l : 
         ap (λ (x : ℕ). take x (sets (m .svids) (length gathered) (take n values))) (sym size) ∙
         sets-behind (m .svids) (l .gathered .count) (take n values) (omega (arith, size, fit .1, formed .lent .svids-size)) ∙ same in
         let then = arrival .last gathered (l .pages) p refl (open-is .1) last in
-        page-lands (gathering (turnedTo Told·Nothing (gatheredTo Done (length gathered + n) countedIn)) (sets (m .svids) (length gathered) (take n values))) refl
+        page-lands (gathering (acceptedWith Told·Nothing (gatheredTo Done (length gathered + n) countedIn)) (sets (m .svids) (length gathered) (take n values))) refl
         refl refl (inl refl) (λ x. absurd (false≢true x)) refl
         (record {
           same-identity = open-is .0;

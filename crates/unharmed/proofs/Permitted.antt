@@ -15,7 +15,7 @@ use Rattle.dock.specs.declared.Policy.{Policy}
 use Rattle.dock.specs.declared.Policy.the-variants.{Give, Nak, Busy}
 use Rattle.dock.specs.declared.Standing.{Standing}
 use Rattle.dock.specs.declared.Standing.the-variants.{Asking, Sending}
-use Rattle.laptop_laws.specs.Done.{Call, message}
+use Rattle.laptop_laws.specs.Effects.{Call, message}
 use Rattle.link.specs.Ends.{laptopDoes, dockHears, dockAnswers}
 use Rattle.link.specs.Joined.{Way, request, Fate, gone, coming, confirmed, came, System, calls, reach, answer, sent, failed}
 use Rattle.link.specs.Link.{isMessage, afterCall, called, lostWith, handedOver, reachedBy, reaches, isFair, brought, answeredBy, answers, arrives, hearsSent, fateOnFailure, hearsFailed, losesAnswer, step}

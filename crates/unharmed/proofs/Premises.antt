@@ -16,7 +16,7 @@ use Rattle.dock.specs.declared.Standing.the-variants.{Ready}
 use Rattle.dock.proofs.Kept.{loaded-sound}
 use Rattle.laptop.specs.State.{Memory, freshLaptop}
 use Rattle.laptop.specs.declared.Wait.the-variants.{Nothing}
-use Rattle.laptop_laws.specs.Done.{Call, keptAfter}
+use Rattle.laptop_laws.specs.Effects.{Call, keptAfter}
 use Rattle.laptop_laws.specs.WellFormed.{Lent}
 use Rattle.laptop_laws.proofs.Laws.{fresh, keeps-all}
 use Rattle.link.specs.Demand.{Meets, AtRest, apart}
@@ -33,7 +33,7 @@ module _ (modesOf : ℕ → List ℕ) (identity svids : List ℕ) (good : goodDa
   unfolding loaded
   list-again = take-append-seam svids _
 
-  identity-again : take (loaded identity svids .objects) (loaded identity svids .identity) ≡ identity
+  identity-again : take (loaded identity svids .extent) (loaded identity svids .identity) ≡ identity
   unfolding loaded
   identity-again = take-padded identity few-objects
 

@@ -21,12 +21,12 @@ use Rattle.owner.specs.Owner.{isAbsent, requestMessage}
 use Rattle.laptop.specs.State.{Memory, ended, awaiting, identityRequest, identityAsked}
 use Rattle.laptop.specs.declared.Candidate.the-variants.{Absent}
 use Rattle.laptop.specs.declared.Laptop.{Laptop}
-use Rattle.laptop_laws.specs.Done.{Call, message, next, startOver, drop, enter, exit, timer, protocolError}
+use Rattle.laptop_laws.specs.Effects.{Call, message, next, startOver, drop, enter, exit, timer, protocolError}
 use Rattle.laptop_laws.specs.Holding.{Holding, holding}
 use Rattle.laptop_laws.specs.WellFormed.{WellFormed}
 use Rattle.link.specs.Demand.{Meets, whole, heldIn, heldWords, refusalOf, Ending, by-drop, by-start-over, by-late-page, by-fourteen, NeverBad}
 use Rattle.link.specs.Needed.{onWay, arriving}
-use Rattle.unharmed.specs.LastAnswer.{isLastHead, isLastOutcome, isLastOf, isLastAnswer, ReplacesAt, EndsAt}
+use Rattle.unharmed.proofs.LastAnswer.{isLastHead, isLastOutcome, isLastOf, isLastAnswer, ReplacesAt, EndsAt}
 use Rattle.link.specs.Joined.{Way, clear, request, Fate, gone, coming, confirmed, came, System, Event, calls, loseRequest, reach, answer, loseAnswer, arrive, sent, failed}
 use Rattle.link.specs.Link.{called, reaches, answeredBy, isFair, answers, hearsSent, hearsFailed, losesAnswer, step, run}
 use Rattle.unharmed.proofs.Arriving.{arrive-ok, answer-read, timely-landed, sure-landed}

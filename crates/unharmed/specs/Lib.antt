@@ -1,2 +1,1 @@
--- When what is held is replaced, as the laptop sees it.
-pub mod LastAnswer
+-- What is proved here is stated in `link`.

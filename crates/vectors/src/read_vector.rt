@@ -1,8 +1,8 @@
 // A read vector: the length of a message, then its bytes.
 use crate::LONGEST;
 use crate::begin_line;
-use messages::Answer;
 use messages::Head;
+use messages::ReadAs;
 use messages::Reading;
 use messages::first_objects;
 use streams::finish::Turn;
@@ -32,14 +32,14 @@ fn append_head(line: &mut [u8], at: usize, head: Head) -> usize {
 }
 
 fn append_reading(line: &mut [u8], at: usize, reading: Reading) -> usize {
-    let answer = reading.answer;
+    let outcome = reading.outcome;
     let objects = reading.objects;
-    match answer {
-        Answer::Message(head, count) => {
+    match outcome {
+        ReadAs::Message(head, count) => {
             let at = append_head(line, at, head);
             append_words(line, at, first_objects(&objects, count as usize))
         }
-        Answer::Refused(refusal) => append_decimal(line, at, refusal as u64),
+        ReadAs::Refused(refusal) => append_decimal(line, at, refusal as u64),
     }
 }
 

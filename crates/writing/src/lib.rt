@@ -1,10 +1,9 @@
 // Writing a message into a lent buffer: document 01, "Message layout" and refusals 5 and 11. What writing leaves is defined in `messages`.
 ghost use mathlib.Core.Path.{_≡_};
-ghost use mathlib.Core.List.{_++_};
 ghost use Prim.Native.Nat.{_+_, _*_, _<_, _≤_};
-ghost use lib.ListN.{length, take, drop};
+ghost use lib.ListN.{length};
 ghost use lib.Seq.{sets};
-ghost use Rattle.messages.specs.Layout.{bytesOfObject, bytesOf, headerOf, Message};
+ghost use Rattle.messages.specs.Layout.{bytesOfObject, bytesOf, headerOf};
 ghost use Rattle.messages.specs.Writing.{Written};
 use messages::Head;
 use messages::bytes_of;

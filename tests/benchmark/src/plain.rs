@@ -39,7 +39,7 @@ pub struct State {
     pub stage: Stage,
     pub gathered: Size,
     /// How many SVIDs have their modes.
-    pub filled: u8,
+    pub stored: u8,
     pub pages: u8,
     pub held: Option<Size>,
 }
@@ -79,9 +79,18 @@ impl Laptop {
         }
     }
 
+    /// A refusal leaves `handed` as it is.
     #[inline(never)]
     pub fn message(&mut self, bytes: &[u8], handed: &mut Handed) -> u8 {
-        *handed = [0; 7];
+        let mut over = [0; 7];
+        let refusal = self.hear(bytes, &mut over);
+        if refusal == ACCEPTED {
+            *handed = over;
+        }
+        refusal
+    }
+
+    fn hear(&mut self, bytes: &[u8], handed: &mut Handed) -> u8 {
         let message = match read(bytes) {
             Ok(message) => message,
             Err(refusal) => return refusal,
@@ -119,7 +128,7 @@ impl Laptop {
             objects: message.objects.as_slice().len() as u8,
             count: 0,
         };
-        self.state.filled = 0;
+        self.state.stored = 0;
         self.candidate.svids = [0; MOST_SVIDS];
         self.candidate.identity = *message.objects.words();
         ACCEPTED
@@ -183,7 +192,7 @@ impl Laptop {
     }
 
     fn hear_modes(&mut self, message: &Message) -> u8 {
-        let place = usize::from(self.state.filled);
+        let place = usize::from(self.state.stored);
         match message.kind {
             BUSY => return ACCEPTED,
             ACK if place < MOST_SVIDS => {}
@@ -192,13 +201,13 @@ impl Laptop {
         let modes = message.objects.as_slice();
         self.candidate.run[place * MOST_MODES..][..modes.len()].copy_from_slice(modes);
         self.candidate.modes[place] = modes.len() as u8;
-        self.state.filled += 1;
+        self.state.stored += 1;
         self.publish_if_whole()
     }
 
     fn publish_if_whole(&mut self) -> u8 {
         let size = self.state.gathered;
-        if self.state.stage == Stage::ListDone && size.count <= self.state.filled {
+        if self.state.stage == Stage::ListDone && size.count <= self.state.stored {
             self.held.svids = self.candidate.svids;
             self.held.modes = self.candidate.modes;
             self.held.identity = self.candidate.identity;

@@ -88,7 +88,7 @@ fn plain_state(gathered: u8) -> plain::State {
             objects: IDENTITY_OBJECTS,
             count: gathered,
         },
-        filled: 0,
+        stored: 0,
         pages: 0,
         held: None,
     }
@@ -111,7 +111,7 @@ fn numbers(state: &plain::State) -> proved::State {
         state.stage as u16,
         state.gathered.objects.into(),
         state.gathered.count.into(),
-        state.filled.into(),
+        state.stored.into(),
         state.pages.into(),
     ];
     let mut numbers = [0; 12];

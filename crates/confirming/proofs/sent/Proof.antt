@@ -3,7 +3,7 @@ use mathlib.Core.Path.{ap, _∙_}
 use mathlib.Core.List.{[]}
 use Rattle.dock.specs.Dock.{acceptedBy}
 use Rattle.dock.proofs.Decisions.{sent-standing, sent-moves}
-use Rattle.dock.proofs.Steps.{refuse, turn}
+use Rattle.dock.proofs.Steps.{refuse, accept}
 use borrow.Author.Needs.{needs}
 use Rattle.confirming.proofs.sent.Statement.{statement}
 use Rattle.confirming.proofs.sent.Tie as tie
@@ -26,7 +26,7 @@ accepted-requires c κs = search needs
 
 returns-2 : tie.Need-returns-2
 returns-2 c = let d = c .before .before .before .before .before .args .dock in
-    turn d _ _ [] _ (sent-moves d (d .standing) _ (c .before .before .before .standing .given .1)) (c .accepted .ensures ∙ ap (acceptedBy 0) (c .before .move-on .ensures)) .step-is
+    accept d _ _ [] _ (sent-moves d (d .standing) _ (c .before .before .before .standing .given .1)) (c .accepted .ensures ∙ ap (acceptedBy 0) (c .before .move-on .ensures)) .step-is
 
 pub sent-spec : {M : Type 1} → statement M
 sent-spec =

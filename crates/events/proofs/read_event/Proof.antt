@@ -1,5 +1,5 @@
 -- `read_event` meets its promise.
-use mathlib.Core.Path.{ap, ap₂, sym, _∙_}
+use mathlib.Core.Path.{ap₂, sym, _∙_}
 use Prim.Native.Nat.{ℕ, _+_}
 use native.Mathlib.Omega.{arith}
 use borrow.Author.Needs.{needs}

@@ -8,8 +8,8 @@ use Rattle.exports.proofs.exports_read.Tie as tie
 read-requires : tie.Need-read-requires
 read-requires c κs = search needs
 
-enum-known-answer : tie.Need-enum-known-answer
-enum-known-answer c = search needs
+enum-known-outcome : tie.Need-enum-known-outcome
+enum-known-outcome c = search needs
 
 enum-told : tie.Need-enum-told
 enum-told c = search needs
@@ -55,14 +55,14 @@ array-read-t30 : tie.Need-array-read-t30
 array-read-t30 c = search needs
 
 returns-2 : tie.Need-returns-2
-returns-2 c = numbers-accepted (readOutcome (c .before .before .before .before .before .before .before .before .before .before .before .args .bytes .now)) (c .before .before .before .before .before .before .before .before .before .read .result) _ _ (c .before .before .before .before .before .before .before .before .before .before .before .args .into .now) (c .before .before .before .before .before .before .before .before .before .read .ensures) (c .before .before .before .before .before .before .before .answer .given .1)
+returns-2 c = numbers-accepted (readOutcome (c .before .before .before .before .before .before .before .before .before .before .before .args .bytes .now)) (c .before .before .before .before .before .before .before .before .before .read .result) _ _ (c .before .before .before .before .before .before .before .before .before .before .before .args .into .now) (c .before .before .before .before .before .before .before .before .before .read .ensures) (c .before .before .before .before .before .before .before .outcome .given .1)
 
 pub exports-read-spec : {M : Type 1} → statement M
 exports-read-spec =
     tie.close
     (tie.spec
     read-requires
-    enum-known-answer
+    enum-known-outcome
     enum-told
     number-requires
     returns

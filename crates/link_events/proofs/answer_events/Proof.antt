@@ -1,49 +1,17 @@
 -- `link_events::answer_events` is safe and ends. The stream has no more events than all streams together, and the measure is how many events may
 -- still come.
 -- Assumes nothing.
-use Prim.Native.Nat.{_-_, _≤_}
+use Prim.Native.Nat.{_≤_}
+use Rattle.streams.specs.Budget.{turnsLeft}
 use borrow.Author.Needs.{needs}
 use Rattle.link_events.proofs.answer_events.Statement.{statement}
 use Rattle.link_events.proofs.answer_events.Tie as tie
 
 abbrev Inv-loop : tie.InvT-loop
-Inv-loop stream before state₀ count₀ number₀ state count number = number ≤ count
+Inv-loop stream before state₀ answered₀ number₀ state answered number = number ≤ answered
 
 abbrev μ-loop : tie.MeasureT-loop
-μ-loop stream before state₀ count₀ number₀ state count number = 1000000 - count
-
-loop-holds : tie.Need-loop-holds Inv-loop μ-loop
-loop-holds c = search needs
-
-take-event-requires : tie.Need-take-event-requires Inv-loop μ-loop
-take-event-requires c κs = search needs
-
-enum-known-taken : tie.Need-enum-known-taken Inv-loop μ-loop
-enum-known-taken c = search needs
-
-returns : tie.Need-returns Inv-loop μ-loop
-returns c = search needs
-
-take-requires : tie.Need-take-requires Inv-loop μ-loop
-take-requires c κs = search needs
-
-add-count : tie.Need-add-count Inv-loop μ-loop
-add-count c = search needs
-
-add-number : tie.Need-add-number Inv-loop μ-loop
-add-number c = search needs
-
-print-event-requires : tie.Need-print-event-requires Inv-loop μ-loop
-print-event-requires c κs = search needs
-
-loop-less : tie.Need-loop-less Inv-loop μ-loop
-loop-less c = search needs
-
-loop-again : tie.Need-loop-again Inv-loop μ-loop
-loop-again c = search needs
-
-returns-2 : tie.Need-returns-2 Inv-loop μ-loop
-returns-2 c = search needs
+μ-loop stream before state₀ answered₀ number₀ state answered number = turnsLeft answered
 
 pub answer-events-spec : {M : Type 1} → statement M
 answer-events-spec =
@@ -51,14 +19,15 @@ answer-events-spec =
     (tie.spec
     Inv-loop
     μ-loop
-    loop-holds
-    take-event-requires
-    enum-known-taken
-    returns
-    take-requires
-    add-count
-    add-number
-    print-event-requires
-    loop-less
-    loop-again
-    returns-2)
+    (λ c. search needs)
+    (λ c κs. search needs)
+    (λ c. search needs)
+    (λ c. search needs)
+    (λ c. search needs)
+    (λ c κs. search needs)
+    (λ c. search needs)
+    (λ c. search needs)
+    (λ c κs. search needs)
+    (λ c. search needs)
+    (λ c. search needs)
+    (λ c. search needs))

@@ -27,7 +27,7 @@ unfolding loaded
 returns c = let n = length (c .before .before .before .before .args .identity .now) in
     let k = length (c .before .before .before .before .args .svids .now) in
     let made : List ℕ → List ℕ → Dock =
-    λ o s. record { identity = o; objects = n; svids = s; count = k; page = 0; standing = Ready } in
+    λ o s. record { identity = o; extent = n; svids = s; count = k; page = 0; standing = Ready } in
     ap₂ made (c .before .objects-from .ensures) (c .svids-from .ensures)
 
 pub dock-of-spec : {M : Type 1} → statement M

@@ -1,7 +1,7 @@
 use mathlib.Core.List.{[]}
 use Rattle.dock.specs.Data.{loaded}
 use Rattle.dock.proofs.Decisions.{data-fits}
-use Rattle.dock.proofs.Steps.{refuse, turn}
+use Rattle.dock.proofs.Steps.{refuse, accept}
 -- `load` meets its promise.
 use mathlib.Core.Path.{ap, sym, _∙_}
 use Rattle.dock.specs.Dock.{acceptedBy}
@@ -31,7 +31,7 @@ accepted-requires c κs = search needs
 
 returns-2 : tie.Need-returns-2
 returns-2 c = let a = c .before .before .before .before .before .before .before .before .args in
-    turn (a .dock) (loaded (a .identity .now) (a .svids .now)) _ [] _
+    accept (a .dock) (loaded (a .identity .now) (a .svids .now)) _ [] _
     (load-good (a .identity .now) (a .svids .now) (a .dock .standing) (c .before .before .before .before .enum-told .given .1) (sym (c .before .before .before .good-data .ensures) ∙ c .before .before .if1 .taken))
     (c .accepted .ensures ∙ ap (acceptedBy 0) (c .before .dock-of .ensures)) .step-is
 

@@ -7,13 +7,13 @@ use Rattle.modes.proofs.has_mode.Tie as tie
 returns : tie.Need-returns
 returns c = has-none (c .before .before .args .modes .now) (c .before .before .args .place) (c .before .before .args .position) (c .if1 .taken)
 
-set-at-requires : tie.Need-set-at-requires
-set-at-requires c κs = search needs
+modes-number-requires : tie.Need-modes-number-requires
+modes-number-requires c κs = search needs
 
 returns-2 : tie.Need-returns-2
 returns-2 c =
     let a = c .before .before .before .args in
-    has-by (a .modes .now) (a .place) (a .position) _ (c .before .if1 .left) (c .set-at .ensures)
+    has-by (a .modes .now) (a .place) (a .position) _ (c .before .if1 .left) (c .modes-number .ensures)
 
 pub has-mode-spec : {M : Type 1} → statement M
-has-mode-spec = tie.close (tie.spec returns set-at-requires returns-2)
+has-mode-spec = tie.close (tie.spec returns modes-number-requires returns-2)

@@ -3,6 +3,7 @@ use mathlib.Core.Path.{_≡_, refl, sym, _∙_}
 use Prim.Native.Nat.{_≤_, _-_}
 use native.Mathlib.Omega.{arith}
 use lib.ListN.{length, drop}
+use borrow.Author.Needs.{needs}
 use Rattle.owner.specs.Owner.{anyEntered}
 use Rattle.owner.proofs.Asking.{any-found, any-next, any-none}
 use Rattle.owner.proofs.any_entered.Statement.{statement}
@@ -17,13 +18,16 @@ abbrev μ-loop : tie.MeasureT-loop
 loop-holds : tie.Need-loop-holds Inv-loop μ-loop
 loop-holds c = (omega arith, refl)
 
-shared-slice-read-if1 : tie.Need-shared-slice-read-if1 Inv-loop μ-loop
-shared-slice-read-if1 c = omega arith
+shared-slice-read-six-bits : tie.Need-shared-slice-read-six-bits Inv-loop μ-loop
+shared-slice-read-six-bits c = omega arith
+
+six-bits-requires : tie.Need-six-bits-requires Inv-loop μ-loop
+six-bits-requires c κs = search needs
 
 returns : tie.Need-returns Inv-loop μ-loop
 returns c =
-    let loop = c .before .before .before .loop in
-    sym (loop .inv .1 ∙ any-found (c .before .before .before .before .args .entered .now) (loop .i) (c .before .before .loop-test .taken) (c .if1 .taken))
+    let loop = c .before .before .before .before .loop in
+    sym (loop .inv .1 ∙ any-found (c .before .before .before .before .before .before .args .entered .now) (loop .i) (c .before .before .before .loop-test .taken) _ (c .before .six-bits .ensures) (c .if1 .taken))
 
 add-i : tie.Need-add-i Inv-loop μ-loop
 add-i c = omega arith
@@ -33,11 +37,11 @@ loop-less c = omega arith
 
 loop-again : tie.Need-loop-again Inv-loop μ-loop
 loop-again c =
-    let loop = c .before .before .before .loop in
-    (omega arith, loop .inv .1 ∙ any-next (c .before .before .before .before .args .entered .now) (loop .i) (c .before .before .loop-test .taken) (c .if1 .left))
+    let loop = c .before .before .before .before .loop in
+    (omega arith, loop .inv .1 ∙ any-next (c .before .before .before .before .before .before .args .entered .now) (loop .i) (c .before .before .before .loop-test .taken) _ (c .before .six-bits .ensures) (c .if1 .left))
 
 returns-2 : tie.Need-returns-2 Inv-loop μ-loop
-returns-2 c = sym (c .before .loop .inv .1 ∙ any-none (c .before .before .args .entered .now) (c .before .loop .i) (c .loop-test .left))
+returns-2 c = sym (c .before .loop .inv .1 ∙ any-none (c .before .before .before .args .entered .now) (c .before .loop .i) (c .loop-test .left))
 
 pub any-entered-spec : {M : Type 1} → statement M
 any-entered-spec =
@@ -46,7 +50,8 @@ any-entered-spec =
     Inv-loop
     μ-loop
     loop-holds
-    shared-slice-read-if1
+    shared-slice-read-six-bits
+    six-bits-requires
     returns
     add-i
     loop-less

@@ -1,9 +1,9 @@
 -- `drop` meets its promise.
 use mathlib.Core.Path.{ap, _∙_}
-use Rattle.laptop.specs.Calls.{turnedTo}
+use Rattle.laptop.specs.Calls.{acceptedWith}
 use Rattle.laptop.specs.declared.Told.the-variants.{Nothing}
 use Rattle.owner.proofs.Asking.{drop-refused, drop-turns}
-use Rattle.laptop.proofs.Steps.{refuse, turn}
+use Rattle.laptop.proofs.Steps.{refuse, accept}
 use borrow.Author.Needs.{needs}
 use Rattle.owner.proofs.drop.Statement.{statement}
 use Rattle.owner.proofs.drop.Tie as tie
@@ -21,13 +21,13 @@ returns c = let a = c .before .before .before .before .before .before .args in
 dropped-requires : tie.Need-dropped-requires
 dropped-requires c κs = search needs
 
-turned-requires : tie.Need-turned-requires
-turned-requires c κs = search needs
+accepted-requires : tie.Need-accepted-requires
+accepted-requires c κs = search needs
 
 returns-2 : tie.Need-returns-2
 returns-2 c = let a = c .before .before .before .before .before .before .before .args in
-    turn (a .laptop) _ Nothing _ (a .out .now) _ (drop-turns (a .laptop) _ _ _ (c .before .before .before .owner-refusal .ensures) (c .before .before .if1 .left))
-    (c .turned .ensures ∙ ap (turnedTo Nothing) (c .before .dropped .ensures))
+    accept (a .laptop) _ Nothing _ (a .out .now) _ (drop-turns (a .laptop) _ _ _ (c .before .before .before .owner-refusal .ensures) (c .before .before .if1 .left))
+    (c .accepted .ensures ∙ ap (acceptedWith Nothing) (c .before .dropped .ensures))
 
 pub drop-spec : {M : Type 1} → statement M
 drop-spec =
@@ -37,5 +37,5 @@ drop-spec =
     refused-requires
     returns
     dropped-requires
-    turned-requires
+    accepted-requires
     returns-2)

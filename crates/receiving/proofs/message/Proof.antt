@@ -1,8 +1,8 @@
 -- `message` meets its promise: the answer of reading is taken apart, and each case of it is one of the outcome.
 use mathlib.Core.Path.{ap, sym, _∙_}
 use Prim.Native.Nat.{ℕ}
-use Rattle.messages.specs.Reading.{readOutcome, answerNumber}
-use Rattle.messages.proofs.Laws.{answer-message, answer-refused}
+use Rattle.messages.specs.Reading.{readOutcome, readNumber}
+use Rattle.messages.proofs.Laws.{shown-message, shown-refused}
 use Rattle.dock.specs.Dock.{refusedBy, decideRequest}
 use Rattle.dock.proofs.Decisions.{message-refused, message-answer, message-attention, message-request}
 use Rattle.dock.proofs.Steps.{refuse, same}
@@ -13,8 +13,8 @@ use Rattle.receiving.proofs.message.Tie as tie
 read-requires : tie.Need-read-requires
 read-requires c κs = search needs
 
-enum-known-answer : tie.Need-enum-known-answer
-enum-known-answer c = search needs
+enum-known-outcome : tie.Need-enum-known-outcome
+enum-known-outcome c = search needs
 
 enum-told : tie.Need-enum-told
 enum-told c = search needs
@@ -28,9 +28,9 @@ refused-requires c κs = search needs
 returns : tie.Need-returns
 returns c = let a = c .before .before .before .before .before .before .before .args in
     let o = readOutcome (a .bytes .now) in
-    let is = answer-refused o (c .before .before .before .before .read .result) _ (c .before .before .before .before .read .ensures) (c .before .before .enum-told .given .1) in
+    let is = shown-refused o (c .before .before .before .before .read .result) _ (c .before .before .before .before .read .ensures) (c .before .before .enum-told .given .1) in
     refuse (a .dock) _ _ (a .out .now) _ (message-refused (a .dock) o _ is)
-    (c .refused .ensures ∙ ap (λ (k : ℕ). refusedBy k (a .dock)) (c .before .number .ensures ∙ ap answerNumber (c .before .before .enum-told .given .1)))
+    (c .refused .ensures ∙ ap (λ (k : ℕ). refusedBy k (a .dock)) (c .before .number .ensures ∙ ap readNumber (c .before .before .enum-told .given .1)))
 
 refused-requires-2 : tie.Need-refused-requires-2
 refused-requires-2 c κs = search needs
@@ -38,7 +38,7 @@ refused-requires-2 c κs = search needs
 returns-2 : tie.Need-returns-2
 returns-2 c = let a = c .before .before .before .before .before .before .before .before .before .args in
     let o = readOutcome (a .bytes .now) in
-    let m = answer-message o (c .before .before .before .before .before .before .read .result) _ _ (c .before .before .before .before .before .before .read .ensures) (c .before .before .before .before .answer .given .1) in
+    let m = shown-message o (c .before .before .before .before .before .before .read .result) _ _ (c .before .before .before .before .before .before .read .ensures) (c .before .before .before .before .outcome .given .1) in
     refuse (a .dock) _ 6 (a .out .now) _ (message-answer (a .dock) o (m .0) _ (m .1) (m .2) (c .before .if1 .taken)) (c .refused2 .ensures)
 
 refused-requires-3 : tie.Need-refused-requires-3
@@ -47,7 +47,7 @@ refused-requires-3 c κs = search needs
 returns-3 : tie.Need-returns-3
 returns-3 c = let a = c .before .before .before .before .before .before .before .before .before .before .before .args in
     let o = readOutcome (a .bytes .now) in
-    let m = answer-message o (c .before .before .before .before .before .before .before .before .read .result) _ _ (c .before .before .before .before .before .before .before .before .read .ensures) (c .before .before .before .before .before .before .answer .given .1) in
+    let m = shown-message o (c .before .before .before .before .before .before .before .before .read .result) _ _ (c .before .before .before .before .before .before .before .before .read .ensures) (c .before .before .before .before .before .before .outcome .given .1) in
     refuse (a .dock) _ 6 (a .out .now) _ (message-attention (a .dock) o (m .0) _ (m .1) (m .2) (c .before .before .before .if1 .left) (c .before .if2 .taken)) (c .refused3 .ensures)
 
 request-of-requires : tie.Need-request-of-requires
@@ -62,7 +62,7 @@ same-length c = search needs
 returns-4 : tie.Need-returns-4
 returns-4 c = let a = c .before .before .before .before .before .before .before .before .before .before .before .before .before .before .before .args in
     let o = readOutcome (a .bytes .now) in
-    let m = answer-message o (c .before .before .before .before .before .before .before .before .before .before .before .before .read .result) _ _ (c .before .before .before .before .before .before .before .before .before .before .before .before .read .ensures) (c .before .before .before .before .before .before .before .before .before .before .answer .given .1) in
+    let m = shown-message o (c .before .before .before .before .before .before .before .before .before .before .before .before .read .result) _ _ (c .before .before .before .before .before .before .before .before .before .before .before .before .read .ensures) (c .before .before .before .before .before .before .before .before .before .before .outcome .given .1) in
     let e = message-request (a .dock) o (m .0) _ (m .1) (m .2) (c .before .before .before .before .before .before .before .if1 .left) (c .before .before .before .before .before .if2 .left) in
     same (a .dock) _ _ (a .out .now) _ _ (e ∙ ap (decideRequest (a .dock)) (sym (c .before .before .before .before .request-of .ensures))) (c .before .before .receive .ensures)
 
@@ -71,7 +71,7 @@ message-spec =
     tie.close
     (tie.spec
     read-requires
-    enum-known-answer
+    enum-known-outcome
     enum-told
     number-requires
     refused-requires

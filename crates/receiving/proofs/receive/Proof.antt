@@ -2,7 +2,7 @@
 use mathlib.Core.Path.{ap, _∙_}
 use Rattle.dock.specs.Dock.{acceptedBy, asking}
 use Rattle.dock.proofs.Decisions.{request-zero, request-past, request-asked}
-use Rattle.dock.proofs.Steps.{same, turn}
+use Rattle.dock.proofs.Steps.{same, accept}
 use borrow.Author.Needs.{needs}
 use Rattle.receiving.proofs.receive.Statement.{statement}
 use Rattle.receiving.proofs.receive.Tie as tie
@@ -35,7 +35,7 @@ accepted-requires c κs = search needs
 
 returns-3 : tie.Need-returns-3
 returns-3 c = let a = c .before .before .before .before .before .before .before .args in
-    turn (a .dock) (asking (a .request) (a .dock)) _ (a .out .now) _
+    accept (a .dock) (asking (a .request) (a .dock)) _ (a .out .now) _
     (request-asked (a .request) (a .dock) (c .before .before .before .before .if1 .left) (c .before .before .if2 .left))
     (c .accepted .ensures ∙ ap (acceptedBy 0) (c .before .asking-for .ensures))
 

@@ -1,7 +1,7 @@
 -- `vectors::answer_all` is safe and ends. The measure is what is left of the budget, and nothing has to hold from turn to turn.
 -- Assumes nothing.
 use borrow.Author.Needs.{needs}
-use Prim.Native.Nat.{_-_}
+use Rattle.streams.specs.Budget.{turnsLeft}
 use Rattle.vectors.proofs.answer_all.Statement.{statement}
 use Rattle.vectors.proofs.answer_all.Tie as tie
 
@@ -9,34 +9,7 @@ abbrev Inv-loop : tie.InvT-loop
 Inv-loop answered₀ answered = Unit {0}
 
 abbrev μ-loop : tie.MeasureT-loop
-μ-loop answered₀ answered = 1000000 - answered
-
-loop-holds : tie.Need-loop-holds Inv-loop μ-loop
-loop-holds c = search needs
-
-add-answer-next : tie.Need-add-answer-next Inv-loop μ-loop
-add-answer-next c = search needs
-
-answer-next-requires : tie.Need-answer-next-requires Inv-loop μ-loop
-answer-next-requires c κs = search needs
-
-enum-told : tie.Need-enum-told Inv-loop μ-loop
-enum-told c = search needs
-
-returns : tie.Need-returns Inv-loop μ-loop
-returns c = search needs
-
-add-answered : tie.Need-add-answered Inv-loop μ-loop
-add-answered c = search needs
-
-loop-less : tie.Need-loop-less Inv-loop μ-loop
-loop-less c = search needs
-
-loop-again : tie.Need-loop-again Inv-loop μ-loop
-loop-again c = search needs
-
-returns-2 : tie.Need-returns-2 Inv-loop μ-loop
-returns-2 c = search needs
+μ-loop answered₀ answered = turnsLeft answered
 
 pub answer-all-spec : {M : Type 1} → statement M
 answer-all-spec =
@@ -44,12 +17,12 @@ answer-all-spec =
     (tie.spec
     Inv-loop
     μ-loop
-    loop-holds
-    add-answer-next
-    answer-next-requires
-    enum-told
-    returns
-    add-answered
-    loop-less
-    loop-again
-    returns-2)
+    (λ c. search needs)
+    (λ c. search needs)
+    (λ c κs. search needs)
+    (λ c. search needs)
+    (λ c. search needs)
+    (λ c. search needs)
+    (λ c. search needs)
+    (λ c. search needs)
+    (λ c. search needs))

@@ -4,10 +4,10 @@ use mathlib.Core.List.{List}
 use Prim.Native.Nat.{ℕ}
 use native.Mathlib.Omega.{arith}
 use lib.ListN.{length, length-take}
-use Rattle.laptop.specs.Calls.{refusedBy, turnedTo}
+use Rattle.laptop.specs.Calls.{refusedBy, acceptedWith}
 use Rattle.laptop.specs.declared.Told.the-variants.{Nothing}
 use Rattle.answers.specs.Answers.{hearModes}
-use Rattle.answers.proofs.Storing.{modes-busy, modes-void, modes-kept, filling-parts}
+use Rattle.answers.proofs.Storing.{modes-busy, modes-void, modes-kept, storing-parts}
 use borrow.Author.Needs.{needs}
 use Rattle.answers.proofs.answers.hear_modes.Statement.{statement}
 use Rattle.answers.proofs.answers.hear_modes.Tie as tie
@@ -15,14 +15,14 @@ use Rattle.answers.proofs.answers.hear_modes.Tie as tie
 ended-requires : tie.Need-ended-requires
 ended-requires c κs = search needs
 
-turned-requires : tie.Need-turned-requires
-turned-requires c κs = search needs
+accepted-requires : tie.Need-accepted-requires
+accepted-requires c κs = search needs
 
 returns : tie.Need-returns
 returns c =
     let a = c .before .before .before .before .args in
-    let e = filling-parts _ _ (modes-busy (a .laptop) (a .kind) _ (a .modes .now) (a .run .now) (c .before .before .if1 .taken)) in
-    (c .turned .ensures ∙ ap (turnedTo Nothing) (c .before .ended .ensures) ∙ e .0, e .1, e .2)
+    let e = storing-parts _ _ (modes-busy (a .laptop) (a .kind) _ (a .modes .now) (a .run .now) (c .before .before .if1 .taken)) in
+    (c .accepted .ensures ∙ ap (acceptedWith Nothing) (c .before .ended .ensures) ∙ e .0, e .1, e .2)
 
 dropped-requires : tie.Need-dropped-requires
 dropped-requires c κs = search needs
@@ -33,7 +33,7 @@ refused-requires c κs = search needs
 returns-2 : tie.Need-returns-2
 returns-2 c =
     let a = c .before .before .before .before .before .args in
-    let e = filling-parts _ _ (modes-void (a .laptop) (a .kind) _ (a .modes .now) (a .run .now) (c .before .before .before .if1 .left) (c .before .before .if2 .taken)) in
+    let e = storing-parts _ _ (modes-void (a .laptop) (a .kind) _ (a .modes .now) (a .run .now) (c .before .before .before .if1 .left) (c .before .before .if2 .taken)) in
     (c .refused .ensures ∙ ap (refusedBy 8) (c .before .dropped .ensures) ∙ e .0, e .1, e .2)
 
 first-objects-requires : tie.Need-first-objects-requires
@@ -52,7 +52,7 @@ returns-3 c =
     let a = c .before .before .before .before .before .before .before .before .before .before .args in
     let kept = modes-kept (a .laptop) (a .kind) _ (a .modes .now) (a .run .now) (c .before .before .before .before .before .before .before .before .if1 .left) (c .before .before .before .before .before .before .before .if2 .left) in
     let same = ap (λ (words : List ℕ). hearModes (a .laptop) (a .kind) words (a .modes .now) (a .run .now)) (sym (c .before .before .before .before .before .first-objects .ensures)) in
-    let e = filling-parts _ _ (same ∙ kept) in
+    let e = storing-parts _ _ (same ∙ kept) in
     (c .before .before .store-modes .ensures .0 ∙ e .0, c .before .before .store-modes .ensures .1 ∙ e .1, c .before .before .store-modes .ensures .2 ∙ e .2)
 
 pub hear-modes-spec : {M : Type 1} → statement M
@@ -60,7 +60,7 @@ hear-modes-spec =
     tie.close
     (tie.spec
     ended-requires
-    turned-requires
+    accepted-requires
     returns
     dropped-requires
     refused-requires

@@ -1,8 +1,8 @@
 -- `store_modes` meets its promise.
 use mathlib.Core.Path.{ap, _∙_}
-use Rattle.laptop.specs.Calls.{refusedBy, turnedTo}
+use Rattle.laptop.specs.Calls.{refusedBy, acceptedWith}
 use Rattle.laptop.specs.declared.Told.the-variants.{Nothing}
-use Rattle.answers.proofs.Storing.{modes-past, modes-stored, filling-parts}
+use Rattle.answers.proofs.Storing.{modes-past, modes-stored, storing-parts}
 use borrow.Author.Needs.{needs}
 use Rattle.answers.proofs.answers.store_modes.Statement.{statement}
 use Rattle.answers.proofs.answers.store_modes.Tie as tie
@@ -19,7 +19,7 @@ refused-requires c κs = search needs
 returns : tie.Need-returns
 returns c =
     let a = c .before .before .before .before .before .args in
-    let e = filling-parts _ _ (modes-past (a .laptop) (a .words .now) (a .modes .now) (a .run .now) (c .before .before .if1 .taken)) in
+    let e = storing-parts _ _ (modes-past (a .laptop) (a .words .now) (a .modes .now) (a .run .now) (c .before .before .if1 .taken)) in
     (c .refused .ensures ∙ ap (refusedBy 8) (c .before .dropped .ensures) ∙ e .0, e .1, e .2)
 
 mul-put-words : tie.Need-mul-put-words
@@ -34,14 +34,14 @@ cast-modes c = search needs
 element-write-modes : tie.Need-element-write-modes
 element-write-modes c = search needs
 
-add-filled-to : tie.Need-add-filled-to
-add-filled-to c = search needs
+add-stored-to : tie.Need-add-stored-to
+add-stored-to c = search needs
 
-filled-to-requires : tie.Need-filled-to-requires
-filled-to-requires c κs = search needs
+stored-to-requires : tie.Need-stored-to-requires
+stored-to-requires c κs = search needs
 
-turned-requires : tie.Need-turned-requires
-turned-requires c κs = search needs
+accepted-requires : tie.Need-accepted-requires
+accepted-requires c κs = search needs
 
 same-length : tie.Need-same-length
 same-length c = search needs
@@ -49,8 +49,8 @@ same-length c = search needs
 returns-2 : tie.Need-returns-2
 returns-2 c =
     let a = c .before .before .before .before .before .before .before .before .before .args in
-    let e = filling-parts _ _ (modes-stored (a .laptop) (a .words .now) (a .modes .now) (a .run .now) (c .before .before .before .before .before .before .if1 .left)) in
-    (c .turned .ensures ∙ ap (turnedTo Nothing) (c .before .filled-to .ensures) ∙ e .0, e .1, c .before .before .before .before .put-words .ensures ∙ e .2)
+    let e = storing-parts _ _ (modes-stored (a .laptop) (a .words .now) (a .modes .now) (a .run .now) (c .before .before .before .before .before .before .if1 .left)) in
+    (c .accepted .ensures ∙ ap (acceptedWith Nothing) (c .before .stored-to .ensures) ∙ e .0, e .1, c .before .before .before .before .put-words .ensures ∙ e .2)
 
 pub store-modes-spec : {M : Type 1} → statement M
 store-modes-spec =
@@ -64,8 +64,8 @@ store-modes-spec =
     put-words-requires
     cast-modes
     element-write-modes
-    add-filled-to
-    filled-to-requires
-    turned-requires
+    add-stored-to
+    stored-to-requires
+    accepted-requires
     same-length
     returns-2)

@@ -1,6 +1,7 @@
 -- `modes_at` meets its promise.
 use native.Mathlib.Omega.{arith}
-use Rattle.catalogue.proofs.Places.{number-most, modes-part}
+use Rattle.laptop.proofs.Numbers.{number-most}
+use Rattle.catalogue.proofs.Places.{modes-part}
 use borrow.Author.Needs.{needs}
 use Rattle.catalogue.proofs.entries.modes_at.Statement.{statement}
 use Rattle.catalogue.proofs.entries.modes_at.Tie as tie
@@ -10,6 +11,9 @@ mul-at c = search needs
 
 modes-number-requires : tie.Need-modes-number-requires
 modes-number-requires c κs = search needs
+
+cast-end : tie.Need-cast-end
+cast-end c = search needs
 
 add-end : tie.Need-add-end
 add-end c = omega (arith, number-most (c .before .before .before .args .modes .now) (c .before .before .before .args .i))
@@ -37,6 +41,7 @@ modes-at-spec =
     (tie.spec
     mul-at
     modes-number-requires
+    cast-end
     add-end
     mul-result
     sub-result

@@ -1,7 +1,6 @@
 -- `send` meets its promise: the message is handed over, or the buffer refuses it and the dock stays.
 use native.Mathlib.Omega.{arith}
 use Rattle.dock.specs.Dock.{reply, sending}
-use Rattle.dock.specs.declared.Dock.{Dock}
 use Rattle.dock.proofs.Steps.{send-refused, send-few, send-whole, written-head}
 use borrow.Author.Needs.{needs}
 use Rattle.dock.proofs.replying.send.Statement.{statement}

@@ -12,37 +12,16 @@ Inv-loop digest bytes digest₀ index₀ digest' index = Unit {0}
 abbrev μ-loop : tie.MeasureT-loop
 μ-loop digest bytes digest₀ index₀ digest' index = length bytes - index
 
-loop-holds : tie.Need-loop-holds Inv-loop μ-loop
-loop-holds c = search needs
-
-shared-slice-read-of-byte : tie.Need-shared-slice-read-of-byte Inv-loop μ-loop
-shared-slice-read-of-byte c = search needs
-
-of-byte-requires : tie.Need-of-byte-requires Inv-loop μ-loop
-of-byte-requires c κs = search needs
-
-add-index : tie.Need-add-index Inv-loop μ-loop
-add-index c = search needs
-
-loop-less : tie.Need-loop-less Inv-loop μ-loop
-loop-less c = search needs
-
-loop-again : tie.Need-loop-again Inv-loop μ-loop
-loop-again c = search needs
-
-returns : tie.Need-returns Inv-loop μ-loop
-returns c = search needs
-
 pub of-more-spec : {M : Type 1} → statement M
 of-more-spec =
     tie.close
     (tie.spec
     Inv-loop
     μ-loop
-    loop-holds
-    shared-slice-read-of-byte
-    of-byte-requires
-    add-index
-    loop-less
-    loop-again
-    returns)
+    (λ c. search needs)
+    (λ c. search needs)
+    (λ c κs. search needs)
+    (λ c. search needs)
+    (λ c. search needs)
+    (λ c. search needs)
+    (λ c. search needs))

@@ -1,7 +1,7 @@
-use mathlib.Core.Path.{ap, _∙_}
+use mathlib.Core.Path.{ap, sym, _∙_}
 use Prim.Native.Nat.{_*_}
 use lib.ListN.{take}
-use Rattle.laptop.specs.Calls.{refusedBy, turnedTo}
+use Rattle.laptop.specs.Calls.{refusedBy, acceptedWith}
 use Rattle.laptop.specs.declared.Told.the-variants.{Nothing}
 use Rattle.gathering.proofs.Listing.{svids-page, svids-busy, svids-empty, svids-void, parts}
 -- `hear_svids` meets its promise.
@@ -35,24 +35,27 @@ returns c =
 ended-requires : tie.Need-ended-requires
 ended-requires c κs = search needs
 
-turned-requires : tie.Need-turned-requires
-turned-requires c κs = search needs
+accepted-requires : tie.Need-accepted-requires
+accepted-requires c κs = search needs
 
 returns-2 : tie.Need-returns-2
 returns-2 c =
     let a = c .before .before .before .before .args in
-    let e = parts _ _ (svids-busy (a .laptop) (a .kind) _ (a .svids .now) (c .before .before .if2 .taken)) in (c .turned .ensures ∙ ap (turnedTo Nothing) (c .before .ended .ensures) ∙ e .0, e .1)
+    let e = parts _ _ (svids-busy (a .laptop) (a .kind) _ (a .svids .now) (c .before .before .if2 .taken)) in (c .accepted .ensures ∙ ap (acceptedWith Nothing) (c .before .ended .ensures) ∙ e .0, e .1)
+
+none-gathered-requires : tie.Need-none-gathered-requires
+none-gathered-requires c κs = search needs
 
 gathered-to-requires : tie.Need-gathered-to-requires
 gathered-to-requires c κs = search needs
 
-turned-requires-2 : tie.Need-turned-requires-2
-turned-requires-2 c κs = search needs
+accepted-requires-2 : tie.Need-accepted-requires-2
+accepted-requires-2 c κs = search needs
 
 returns-3 : tie.Need-returns-3
 returns-3 c =
     let a = c .before .before .before .before .before .before .args in
-    let e = parts _ _ (svids-empty (a .laptop) (a .kind) _ (a .svids .now) (c .before .before .before .before .before .if1 .left) (c .before .before .before .before .if2 .left) (c .before .before .if3 .taken)) in (c .turned2 .ensures ∙ ap (turnedTo Nothing) (c .before .gathered-to .ensures) ∙ e .0, e .1)
+    let e = parts _ _ (svids-empty (a .laptop) (a .kind) _ (a .svids .now) (c .before .before .before .before .before .if1 .left) (c .before .before .before .before .if2 .left) (sym (c .before .before .before .none-gathered .ensures) ∙ c .before .before .if3 .taken)) in (c .accepted2 .ensures ∙ ap (acceptedWith Nothing) (c .before .gathered-to .ensures) ∙ e .0, e .1)
 
 dropped-requires : tie.Need-dropped-requires
 dropped-requires c κs = search needs
@@ -63,7 +66,7 @@ refused-requires c κs = search needs
 returns-4 : tie.Need-returns-4
 returns-4 c =
     let a = c .before .before .before .before .before .before .args in
-    let e = parts _ _ (svids-void (a .laptop) (a .kind) _ (a .svids .now) (c .before .before .before .before .before .if1 .left) (c .before .before .before .before .if2 .left) (c .before .before .if3 .left)) in (c .refused .ensures ∙ ap (refusedBy 8) (c .before .dropped .ensures) ∙ e .0, e .1)
+    let e = parts _ _ (svids-void (a .laptop) (a .kind) _ (a .svids .now) (c .before .before .before .before .before .if1 .left) (c .before .before .before .before .if2 .left) (sym (c .before .before .before .none-gathered .ensures) ∙ c .before .before .if3 .left)) in (c .refused .ensures ∙ ap (refusedBy 8) (c .before .dropped .ensures) ∙ e .0, e .1)
 
 pub hear-svids-spec : {M : Type 1} → statement M
 hear-svids-spec =
@@ -77,10 +80,11 @@ hear-svids-spec =
     take-page-requires
     returns
     ended-requires
-    turned-requires
+    accepted-requires
     returns-2
+    none-gathered-requires
     gathered-to-requires
-    turned-requires-2
+    accepted-requires-2
     returns-3
     dropped-requires
     refused-requires

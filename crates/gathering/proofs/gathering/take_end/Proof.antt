@@ -3,9 +3,9 @@ use mathlib.Core.Path.{ap, _∙_}
 use native.Mathlib.Omega.{arith}
 use lib.ListN.{length}
 use lib.Seq.{sets, length-take-le}
-use Rattle.laptop.specs.Calls.{turnedTo}
+use Rattle.laptop.specs.Calls.{acceptedWith}
 use Rattle.laptop.specs.declared.Told.the-variants.{Nothing}
-use Rattle.gathering.proofs.Listing.{turned-parts}
+use Rattle.gathering.proofs.Listing.{accepted-parts}
 use borrow.Author.Needs.{needs}
 use Rattle.gathering.proofs.gathering.take_end.Statement.{statement}
 use Rattle.gathering.proofs.gathering.take_end.Tie as tie
@@ -27,13 +27,13 @@ add-gathered-to c = search needs
 gathered-to-requires : tie.Need-gathered-to-requires
 gathered-to-requires c κs = search needs
 
-turned-requires : tie.Need-turned-requires
-turned-requires c κs = search needs
+accepted-requires : tie.Need-accepted-requires
+accepted-requires c κs = search needs
 
 returns : tie.Need-returns
 returns c =
     let a = c .before .before .before .before .before .before .args in
-    turned-parts _ _ _ _ (c .turned .ensures ∙ ap (turnedTo Nothing) (c .before .gathered-to .ensures))
+    accepted-parts _ _ _ _ (c .accepted .ensures ∙ ap (acceptedWith Nothing) (c .before .gathered-to .ensures))
     (c .before .before .put-values .ensures ∙ ap (sets (a .svids .now) (a .n)) (c .before .before .before .first-svids .ensures))
 
 pub take-end-spec : {M : Type 1} → statement M
@@ -45,5 +45,5 @@ take-end-spec =
     cast-gathered-to
     add-gathered-to
     gathered-to-requires
-    turned-requires
+    accepted-requires
     returns)

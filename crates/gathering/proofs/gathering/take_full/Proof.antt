@@ -1,8 +1,8 @@
 -- `take_full` meets its promise.
 use mathlib.Core.Path.{refl, ap, _∙_}
-use Rattle.laptop.specs.Calls.{refusedBy, turnedTo}
+use Rattle.laptop.specs.Calls.{refusedBy, acceptedWith}
 use Rattle.laptop.specs.declared.Told.the-variants.{Nothing}
-use Rattle.gathering.proofs.Listing.{unless-last, unless-early, turned-parts}
+use Rattle.gathering.proofs.Listing.{unless-last, unless-early, accepted-parts}
 use borrow.Author.Needs.{needs}
 use Rattle.gathering.proofs.gathering.take_full.Statement.{statement}
 use Rattle.gathering.proofs.gathering.take_full.Tie as tie
@@ -16,7 +16,7 @@ refused-requires c κs = search needs
 returns : tie.Need-returns
 returns c =
     let a = c .before .before .before .before .before .args in
-    turned-parts _ _ (a .svids .now) (a .svids .now) (c .refused .ensures ∙ ap (refusedBy 14) (c .before .dropped .ensures)) refl ∙ unless-last (a .laptop) (a .svids .now) _ (c .before .before .if1 .taken)
+    accepted-parts _ _ (a .svids .now) (a .svids .now) (c .refused .ensures ∙ ap (refusedBy 14) (c .before .dropped .ensures)) refl ∙ unless-last (a .laptop) (a .svids .now) _ (c .before .before .if1 .taken)
 
 put-values-requires : tie.Need-put-values-requires
 put-values-requires c κs = search needs
@@ -30,13 +30,13 @@ cast-gathered-to c = search needs
 gathered-to-requires : tie.Need-gathered-to-requires
 gathered-to-requires c κs = search needs
 
-turned-requires : tie.Need-turned-requires
-turned-requires c κs = search needs
+accepted-requires : tie.Need-accepted-requires
+accepted-requires c κs = search needs
 
 returns-2 : tie.Need-returns-2
 returns-2 c =
     let a = c .before .before .before .before .before .before .before .args in
-    turned-parts _ _ _ _ (c .turned .ensures ∙ ap (turnedTo Nothing) (c .before .gathered-to .ensures)) (c .before .before .put-values .ensures) ∙ unless-early (a .laptop) (a .svids .now) _ (c .before .before .before .before .if1 .left)
+    accepted-parts _ _ _ _ (c .accepted .ensures ∙ ap (acceptedWith Nothing) (c .before .gathered-to .ensures)) (c .before .before .put-values .ensures) ∙ unless-early (a .laptop) (a .svids .now) _ (c .before .before .before .before .if1 .left)
 
 pub take-full-spec : {M : Type 1} → statement M
 take-full-spec =
@@ -49,5 +49,5 @@ take-full-spec =
     add-gathered-to
     cast-gathered-to
     gathered-to-requires
-    turned-requires
+    accepted-requires
     returns-2)

@@ -3,7 +3,7 @@ use mathlib.Core.Path.{refl}
 use mathlib.Core.List.{List}
 use Prim.Native.Nat.{ℕ}
 use Rattle.laptop.specs.State.{memory}
-use Rattle.hearing.proofs.Parts.{part-opening, part-gathering, part-filling}
+use Rattle.hearing.proofs.Parts.{part-opening, part-gathering, part-storing}
 use borrow.Author.Needs.{needs}
 use Rattle.hearing.proofs.awaited.gather.Statement.{statement}
 use Rattle.hearing.proofs.awaited.gather.Tie as tie
@@ -36,7 +36,7 @@ returns-3 : tie.Need-returns-3
 returns-3 c =
     let a = c .before .before .before .before .before .before .before .before .args in
     λ (heldSvids heldModes heldIdentity heldRun entered : List ℕ).
-    part-filling (a .laptop) (memory (a .svids .now) (a .modes .now) (a .identity .now) (a .run .now) heldSvids heldModes heldIdentity heldRun entered) (a .command) (a .kind) (a .count) (a .objects .now) _ (c .before .before .before .before .before .before .if1 .left) (c .before .before .before .before .before .if2 .left) _ refl _ _ (c .before .before .hear-modes .ensures .0) (c .before .before .hear-modes .ensures .1) (c .before .before .hear-modes .ensures .2)
+    part-storing (a .laptop) (memory (a .svids .now) (a .modes .now) (a .identity .now) (a .run .now) heldSvids heldModes heldIdentity heldRun entered) (a .command) (a .kind) (a .count) (a .objects .now) _ (c .before .before .before .before .before .before .if1 .left) (c .before .before .before .before .before .if2 .left) _ refl _ _ (c .before .before .hear-modes .ensures .0) (c .before .before .hear-modes .ensures .1) (c .before .before .hear-modes .ensures .2)
 
 pub gather-spec : {M : Type 1} → statement M
 gather-spec =

@@ -27,8 +27,8 @@ returns c =
 gather-requires : tie.Need-gather-requires
 gather-requires c κs = search needs
 
-is-whole-requires : tie.Need-is-whole-requires
-is-whole-requires c κs = search needs
+completes-requires : tie.Need-completes-requires
+completes-requires c κs = search needs
 
 same-length : tie.Need-same-length
 same-length c = search needs
@@ -39,7 +39,7 @@ returns-2 c =
     let m = memory (a .svids .now) (a .modes .now) (a .identity .now) (a .run .now) (a .held-svids .now) (a .held-modes .now) (a .held-identity .now) (a .held-run .now) (a .entered .now) in
     let part = not-false _ (sym (ap not (c .before .before .before .before .before .before .before .before .before .before .before .brings-part .ensures)) ∙ c .before .before .before .before .before .before .before .before .before .before .if1 .left) in
     let gathered = c .before .before .before .before .before .gather .ensures (a .held-svids .now) (a .held-modes .now) (a .held-identity .now) (a .held-run .now) (a .entered .now) in
-    answer-kept (a .laptop) m (a .head) (a .count) (a .objects .now) (c .before .before .before .before .before .before .before .before .before .before .before .before .before .before .pre .0) (c .before .before .before .before .before .before .before .before .before .before .before .before .before .before .pre .1) part _ _ gathered (not-true _ (sym (ap not (c .before .is-whole .ensures)) ∙ c .if2 .taken))
+    answer-kept (a .laptop) m (a .head) (a .count) (a .objects .now) (c .before .before .before .before .before .before .before .before .before .before .before .before .before .before .pre .0) (c .before .before .before .before .before .before .before .before .before .before .before .before .before .before .pre .1) part _ _ gathered (not-true _ (sym (ap not (c .before .completes .ensures)) ∙ c .if2 .taken))
 
 publish-requires : tie.Need-publish-requires
 publish-requires c κs = search needs
@@ -56,7 +56,7 @@ returns-3 c =
     let m = memory (a .svids .now) (a .modes .now) (a .identity .now) (a .run .now) (a .held-svids .now) (a .held-modes .now) (a .held-identity .now) (a .held-run .now) (a .entered .now) in
     let part = not-false _ (sym (ap not (c .before .before .before .before .before .before .before .before .before .before .before .before .before .before .before .before .before .before .before .before .before .before .brings-part .ensures)) ∙ c .before .before .before .before .before .before .before .before .before .before .before .before .before .before .before .before .before .before .before .before .before .if1 .left) in
     let gathered = c .before .before .before .before .before .before .before .before .before .before .before .before .before .before .before .before .gather .ensures (a .held-svids .now) (a .held-modes .now) (a .held-identity .now) (a .held-run .now) (a .entered .now) in
-    let whole = not-false _ (sym (ap not (c .before .before .before .before .before .before .before .before .before .before .before .before .is-whole .ensures)) ∙ c .before .before .before .before .before .before .before .before .before .before .before .if2 .left) in
+    let whole = not-false _ (sym (ap not (c .before .before .before .before .before .before .before .before .before .before .before .before .completes .ensures)) ∙ c .before .before .before .before .before .before .before .before .before .before .before .if2 .left) in
     answer-published (a .laptop) m (a .head) (a .count) (a .objects .now) (c .before .before .before .before .before .before .before .before .before .before .before .before .before .before .before .before .before .before .before .before .before .before .before .before .before .pre .0) (c .before .before .before .before .before .before .before .before .before .before .before .before .before .before .before .before .before .before .before .before .before .before .before .before .before .pre .1) part _ _ gathered whole _ _ _ _ _ (c .before .before .publish .ensures)
 
 pub hear-answer-spec : {M : Type 1} → statement M
@@ -68,7 +68,7 @@ hear-answer-spec =
     hear-mode-requires
     returns
     gather-requires
-    is-whole-requires
+    completes-requires
     same-length
     returns-2
     publish-requires

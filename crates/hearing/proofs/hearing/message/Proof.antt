@@ -3,8 +3,8 @@ use mathlib.Core.Path.{ap, sym, _∙_}
 use mathlib.Core.Bool.{not}
 use Prim.Native.Nat.{ℕ}
 use borrow.Author.Tests.{not-true, not-false}
-use Rattle.messages.specs.Reading.{readOutcome, answerNumber}
-use Rattle.messages.proofs.Laws.{answer-refused}
+use Rattle.messages.specs.Reading.{readOutcome, readNumber}
+use Rattle.messages.proofs.Laws.{shown-refused}
 use Rattle.laptop.specs.Calls.{refusedBy}
 use Rattle.laptop.specs.State.{memory}
 use Rattle.hearing.proofs.Outcomes.{count-few, words-padded, heard-short, heard-refused, heard-request, heard-unawaited, heard-answer, results}
@@ -34,8 +34,8 @@ returns c =
 read-requires : tie.Need-read-requires
 read-requires c κs = search needs
 
-enum-known-answer : tie.Need-enum-known-answer
-enum-known-answer c = search needs
+enum-known-outcome : tie.Need-enum-known-outcome
+enum-known-outcome c = search needs
 
 enum-told : tie.Need-enum-told
 enum-told c = search needs
@@ -57,9 +57,9 @@ returns-2 c =
     let a = c .before .before .before .before .before .before .before .before .before .before .before .before .args in
     let m = memory (a .svids .now) (a .modes .now) (a .identity .now) (a .run .now) (a .held-svids .now) (a .held-modes .now) (a .held-identity .now) (a .held-run .now) (a .entered .now) in
     let long = sym (c .before .before .before .before .before .before .short-runs .ensures) ∙ c .before .before .before .before .before .if1 .left in
-    let is = answer-refused (readOutcome (a .bytes .now)) (c .before .before .before .before .read .result) _ (c .before .before .before .before .read .ensures) (c .before .before .enum-told .given .1) in
+    let is = shown-refused (readOutcome (a .bytes .now)) (c .before .before .before .before .read .result) _ (c .before .before .before .before .read .ensures) (c .before .before .enum-told .given .1) in
     let e = results _ _ (heard-refused (a .laptop) m long (readOutcome (a .bytes .now)) _ is) in
-    (c .refused2 .ensures ∙ ap (λ (k : ℕ). refusedBy k (a .laptop)) (c .before .number .ensures ∙ ap answerNumber (c .before .before .enum-told .given .1)) ∙ e .0, e .1)
+    (c .refused2 .ensures ∙ ap (λ (k : ℕ). refusedBy k (a .laptop)) (c .before .number .ensures ∙ ap readNumber (c .before .before .enum-told .given .1)) ∙ e .0, e .1)
 
 element-copy-out-hear-request : tie.Need-element-copy-out-hear-request
 element-copy-out-hear-request c = search needs
@@ -78,7 +78,7 @@ returns-3 c =
     let a = c .before .before .before .before .before .before .before .before .before .before .before .before .before .before .before .args in
     let m = memory (a .svids .now) (a .modes .now) (a .identity .now) (a .run .now) (a .held-svids .now) (a .held-modes .now) (a .held-identity .now) (a .held-run .now) (a .entered .now) in
     let long = sym (c .before .before .before .before .before .before .before .before .before .short-runs .ensures) ∙ c .before .before .before .before .before .before .before .before .if1 .left in
-    let e = results _ _ (heard-request (a .laptop) m long (a .bytes .now) (c .before .before .before .before .before .before .before .read .result) _ _ (c .before .before .before .before .before .before .before .read .ensures) (c .before .before .before .before .before .answer .given .1) (c .before .before .if2 .taken)) in
+    let e = results _ _ (heard-request (a .laptop) m long (a .bytes .now) (c .before .before .before .before .before .before .before .read .result) _ _ (c .before .before .before .before .before .before .before .read .ensures) (c .before .before .before .before .before .outcome .given .1) (c .before .before .if2 .taken)) in
     (c .hear-request .ensures ∙ e .0, e .1)
 
 fits-requires : tie.Need-fits-requires
@@ -99,13 +99,13 @@ returns-4 c =
     let m = memory (a .svids .now) (a .modes .now) (a .identity .now) (a .run .now) (a .held-svids .now) (a .held-modes .now) (a .held-identity .now) (a .held-run .now) (a .entered .now) in
     let long = sym (c .before .before .before .before .before .before .before .before .before .before .short-runs .ensures) ∙ c .before .before .before .before .before .before .before .before .before .if1 .left in
     let other = not-true _ (sym (ap not (c .before .before .fits2 .ensures)) ∙ c .before .if3 .taken) in
-    let e = results _ _ (heard-unawaited (a .laptop) m long (a .bytes .now) (c .before .before .before .before .before .before .before .before .read .result) _ _ (c .before .before .before .before .before .before .before .before .read .ensures) (c .before .before .before .before .before .before .answer .given .1) (c .before .before .before .if2 .left) other) in
+    let e = results _ _ (heard-unawaited (a .laptop) m long (a .bytes .now) (c .before .before .before .before .before .before .before .before .read .result) _ _ (c .before .before .before .before .before .before .before .before .read .ensures) (c .before .before .before .before .before .before .outcome .given .1) (c .before .before .before .if2 .left) other) in
     (c .hear-unawaited .ensures ∙ e .0, e .1)
 
 hear-answer-requires : tie.Need-hear-answer-requires
 hear-answer-requires c κs =
     let a = c .before .before .before .before .before .before .before .before .before .before .before .before .before .before .before .before .before .before .before .before .before .before .before .before .before .before .args in
-    (count-few (a .bytes .now) (c .before .before .before .before .before .before .before .before .before .before .before .before .before .before .before .before .before .before .read .result) _ _ (c .before .before .before .before .before .before .before .before .before .before .before .before .before .before .before .before .before .before .read .ensures) (c .before .before .before .before .before .before .before .before .before .before .before .before .before .before .before .before .answer .given .1), words-padded (a .bytes .now) (c .before .before .before .before .before .before .before .before .before .before .before .before .before .before .before .before .before .before .read .result) _ _ (c .before .before .before .before .before .before .before .before .before .before .before .before .before .before .before .before .before .before .read .ensures) (c .before .before .before .before .before .before .before .before .before .before .before .before .before .before .before .before .answer .given .1))
+    (count-few (a .bytes .now) (c .before .before .before .before .before .before .before .before .before .before .before .before .before .before .before .before .before .before .read .result) _ _ (c .before .before .before .before .before .before .before .before .before .before .before .before .before .before .before .before .before .before .read .ensures) (c .before .before .before .before .before .before .before .before .before .before .before .before .before .before .before .before .outcome .given .1), words-padded (a .bytes .now) (c .before .before .before .before .before .before .before .before .before .before .before .before .before .before .before .before .before .before .read .result) _ _ (c .before .before .before .before .before .before .before .before .before .before .before .before .before .before .before .before .before .before .read .ensures) (c .before .before .before .before .before .before .before .before .before .before .before .before .before .before .before .before .outcome .given .1))
 
 same-length-9 : tie.Need-same-length-9
 same-length-9 c = search needs
@@ -119,7 +119,7 @@ returns-5 c =
     let m = memory (a .svids .now) (a .modes .now) (a .identity .now) (a .run .now) (a .held-svids .now) (a .held-modes .now) (a .held-identity .now) (a .held-run .now) (a .entered .now) in
     let long = sym (c .before .before .before .before .before .before .before .before .before .before .before .before .before .before .before .before .before .before .before .before .before .before .before .before .before .short-runs .ensures) ∙ c .before .before .before .before .before .before .before .before .before .before .before .before .before .before .before .before .before .before .before .before .before .before .before .before .if1 .left in
     let awaited = not-false _ (sym (ap not (c .before .before .before .before .before .before .before .before .before .before .before .before .before .before .before .before .before .fits2 .ensures)) ∙ c .before .before .before .before .before .before .before .before .before .before .before .before .before .before .before .before .if3 .left) in
-    results _ _ (heard-answer (a .laptop) m long (a .bytes .now) (c .before .before .before .before .before .before .before .before .before .before .before .before .before .before .before .before .before .before .before .before .before .before .before .read .result) _ _ (c .before .before .before .before .before .before .before .before .before .before .before .before .before .before .before .before .before .before .before .before .before .before .before .read .ensures) (c .before .before .before .before .before .before .before .before .before .before .before .before .before .before .before .before .before .before .before .before .before .answer .given .1) (c .before .before .before .before .before .before .before .before .before .before .before .before .before .before .before .before .before .before .if2 .left) awaited ∙ sym (c .before .before .before .before .hear-answer .ensures))
+    results _ _ (heard-answer (a .laptop) m long (a .bytes .now) (c .before .before .before .before .before .before .before .before .before .before .before .before .before .before .before .before .before .before .before .before .before .before .before .read .result) _ _ (c .before .before .before .before .before .before .before .before .before .before .before .before .before .before .before .before .before .before .before .before .before .before .before .read .ensures) (c .before .before .before .before .before .before .before .before .before .before .before .before .before .before .before .before .before .before .before .before .before .outcome .given .1) (c .before .before .before .before .before .before .before .before .before .before .before .before .before .before .before .before .before .before .if2 .left) awaited ∙ sym (c .before .before .before .before .hear-answer .ensures))
 
 pub message-spec : {M : Type 1} → statement M
 message-spec =
@@ -131,7 +131,7 @@ message-spec =
     same-length-2
     returns
     read-requires
-    enum-known-answer
+    enum-known-outcome
     enum-told
     number-requires
     refused-requires-2

@@ -3,7 +3,6 @@ use mathlib.Core.Path.{ap, sym}
 use native.Mathlib.Omega.{arith}
 use Rattle.messages.specs.Table.{rowOf}
 use Rattle.messages.proofs.Rows.{row-shared}
-use borrow.Author.Needs.{needs}
 use Rattle.messages.proofs.table.row_of.Statement.{statement}
 use Rattle.messages.proofs.table.row_of.Tie as tie
 

@@ -1,0 +1,170 @@
+-- What holds of the numbers that a caller lends, by the promises of the calls.
+use mathlib.Core.Path.{_≡_, sym, _∙_}
+use mathlib.Core.List.{List, []}
+use Prim.Native.Nat.{ℕ}
+use lib.ListN.{length, replicate}
+use denote.Ref.{RefT, now}
+use denote.Triple.Both.{Both}
+use Rattle.dock.specs.Data.{freshDock}
+use Rattle.dock.specs.Dock.{Decision}
+use Rattle.dock.specs.declared.Dock.{Dock}
+use Rattle.laptop.specs.Calls.{Decision as Laptop·Decision}
+use Rattle.laptop.specs.Marks.{reported}
+use Rattle.laptop.specs.State.{Memory, freshLaptop}
+use Rattle.laptop.specs.declared.Laptop.{Laptop}
+use Rattle.catalogue.specs.Bytes.{HeldCatalogue}
+use Rattle.owner.specs.Owner.{decideNext, decideStartOver, decideDrop, decideEnter, decideExit}
+use Rattle.timers.specs.Timers.{decideTimer, decideError}
+use Rattle.laptop_laws.specs.Effects.{message, next, startOver, drop, enter, exit, timer, protocolError}
+use Rattle.controller.specs.CatalogueCall.{CatalogueCall}
+use Rattle.controller.specs.Dock.{dockFrom, dockNumbers}
+use Rattle.controller.specs.DockCalls.{DockSendsNothing, DockSends, DockLoads}
+use Rattle.controller.specs.Laptop.{laptopFrom, laptopNumbers, numbersAfter}
+use Rattle.controller.specs.LaptopCalls.{LaptopSendsNothing, LaptopSends, LaptopHears}
+use Rattle.laws.specs.Lent.{Lent, lent, left, leaving}
+use Rattle.controller.proofs.DockNumbers.{from-numbers}
+use Rattle.controller.proofs.DockNumbers.{Fits as Dock·Fits}
+use Rattle.controller.proofs.LaptopNumbers.{from-numbers as Laptop·from-numbers}
+use Rattle.controller.proofs.LaptopNumbers.{Fits, numbers-stand, numbers-stay}
+use Rattle.controller.proofs.Only.{accepted-only, dock-step-only, laptop-step-only}
+use Rattle.controller.proofs.Refusing.{LaptopLeft, nothingLent, dock-step-left, dock-buffer-left, laptop-left, laptop-buffer-left, memory-left, catalogue-left}
+use Rattle.controller.proofs.Accepting.{refused-kept}
+
+-- numbers made of a state stand for it
+pub dock-again : (d : Dock) → Dock·Fits d → dockFrom (dockNumbers d) (d .identity) (d .svids) ≡ d
+dock-again = from-numbers
+
+pub laptop-again : (l : Laptop) → Fits l → laptopFrom (laptopNumbers l) ≡ l
+laptop-again = Laptop·from-numbers
+
+-- after a laptop's call the numbers stand for its laptop, and where that is the one that they stood for they are as they were lent
+pub after-stands : (before : List ℕ) (l : Laptop) → Fits l → laptopFrom (numbersAfter before l) ≡ l
+after-stands = numbers-stand
+
+pub after-stays : (before : List ℕ) → numbersAfter before (laptopFrom before) ≡ before
+after-stays = numbers-stay
+
+-- a refusal of a dock's call leaves all that was lent
+module _ {decide : Dock → Decision} {number : ℕ} {state identity svids : Lent (List ℕ)} {bytes : Lent ℕ} (refused : number ≡ 0 → ⊥) where
+  pub dock-sends-nothing-refusal : DockSendsNothing decide number state identity svids bytes → (left state ≡ lent state) × (left bytes ≡ lent bytes)
+  dock-sends-nothing-refusal p = dock-step-left (p .step-is) refused
+
+  pub dock-sends-refusal : {out : Lent (List ℕ)} → DockSends decide number state identity svids out bytes →
+      (left state ≡ lent state) × (left bytes ≡ lent bytes) × (left out ≡ lent out)
+  dock-sends-refusal p =
+      let (state-left, bytes-left) = dock-step-left (p .step-is) refused in
+      (state-left, bytes-left, dock-buffer-left p refused)
+
+pub dock-loads-refusal : {newIdentity newSvids : List ℕ} {number : ℕ} {state identity svids : Lent (List ℕ)} {bytes : Lent ℕ} → (number ≡ 0 → ⊥) →
+    DockLoads newIdentity newSvids number state identity svids bytes →
+    (left state ≡ lent state) × (left identity ≡ lent identity) × (left svids ≡ lent svids) × (left bytes ≡ lent bytes)
+dock-loads-refusal refused p =
+    let (state-left, bytes-left) = dock-step-left (p .step-is) refused in
+    (state-left, refused-kept _ refused (p .identity-is), refused-kept _ refused (p .svids-is), bytes-left)
+
+-- a refusal of a laptop's call hands nothing over, and leaves the numbers of the state that 01 says: those that were lent, but for 6 with a late page, 8 and 14
+module _ {number : ℕ} {state handed : Lent (List ℕ)} (refused : number ≡ 0 → ⊥) where
+  module _ (m : Memory) {out : Lent (List ℕ)} where
+    pub next-refusal : LaptopSends (λ l. decideNext l (m .svids) (m .entered) (length (m .run)) (length (m .heldRun))) number state out handed →
+        LaptopLeft next number state handed
+    next-refusal p = laptop-left next m (lent out) (p .step-is) refused
+
+    pub start-over-refusal : LaptopSends (λ l. decideStartOver l (m .entered) (length (m .run)) (length (m .heldRun))) number state out handed →
+        LaptopLeft startOver number state handed
+    start-over-refusal p = laptop-left startOver m (lent out) (p .step-is) refused
+
+    pub drop-refusal : LaptopSends (λ l. decideDrop l (length (m .run)) (length (m .heldRun))) number state out handed → LaptopLeft drop number state handed
+    drop-refusal p = laptop-left drop m (lent out) (p .step-is) refused
+
+    pub enter-refusal : (svid position : ℕ) →
+        LaptopSends (λ l. decideEnter l (m .heldSvids) (m .heldModes) (m .entered) (length (m .run)) (length (m .heldRun)) svid position) number state out handed →
+        LaptopLeft (enter svid position) number state handed
+    enter-refusal svid position p = laptop-left (enter svid position) m (lent out) (p .step-is) refused
+
+    pub exit-refusal : (svid position : ℕ) →
+        LaptopSends (λ l. decideExit l (m .heldSvids) (m .heldModes) (m .entered) (length (m .run)) (length (m .heldRun)) svid position) number state out handed →
+        LaptopLeft (exit svid position) number state handed
+    exit-refusal svid position p = laptop-left (exit svid position) m (lent out) (p .step-is) refused
+
+  pub timer-refusal : (first last : ℕ) → LaptopSendsNothing (λ l. decideTimer first last l (l .wait)) number state handed → LaptopLeft (timer first last) number state handed
+  timer-refusal first last p = laptop-left (timer first last) nothingLent [] (p .step-is) refused
+
+  pub error-refusal : LaptopSendsNothing (λ l. decideError l (l .wait)) number state handed → LaptopLeft protocolError number state handed
+  error-refusal p = laptop-left protocolError nothingLent [] (p .step-is) refused
+
+  pub message-refusal : {bytes : List ℕ} {memory : Both Memory Memory} → LaptopHears bytes number state memory handed → LaptopLeft (message bytes) number state handed
+  message-refusal {bytes} {memory} p = laptop-left (message bytes) (memory .entry) [] (p .step-is) refused
+
+-- it leaves the output buffer, and all nine arrays and runs
+pub laptop-sends-refusal : {decide : Laptop → Laptop·Decision} {number : ℕ} {state out handed : Lent (List ℕ)} → (number ≡ 0 → ⊥) →
+    LaptopSends decide number state out handed → left out ≡ lent out
+laptop-sends-refusal refused p = laptop-buffer-left p refused
+
+pub laptop-hears-refusal : {bytes : List ℕ} {number : ℕ} {state handed : Lent (List ℕ)} {memory : Both Memory Memory} → (number ≡ 0 → ⊥) →
+    LaptopHears bytes number state memory handed → memory .exit ≡ memory .entry
+laptop-hears-refusal refused p = memory-left p refused
+
+-- a refusal of catalogue writing leaves the number of bytes and the output buffer
+pub catalogue-refusal : {held : HeldCatalogue} {run : List ℕ} {number : ℕ} {out : Lent (List ℕ)} {bytes : Lent ℕ} → (number ≡ 0 → ⊥) →
+    CatalogueCall held run number out bytes → (left bytes ≡ lent bytes) × (left out ≡ lent out)
+catalogue-refusal refused p = (refused-kept _ refused (p .bytes-is), catalogue-left p refused)
+
+-- of two results that a promise allows of one call, lent the same, all that is returned and left is the same
+module _ {decide : Dock → Decision} {number number′ : ℕ} {state identity svids : Lent (List ℕ)} {bytes : Lent ℕ} {state′ : RefT (List ℕ)}
+    {bytes′ : RefT ℕ} where
+  pub dock-sends-nothing-only : DockSendsNothing decide number state identity svids bytes →
+      DockSendsNothing decide number′ (leaving state state′) identity svids (leaving bytes bytes′) →
+      (number ≡ number′) × (left state ≡ now state′) × (left bytes ≡ now bytes′)
+  dock-sends-nothing-only p p′ = dock-step-only (p .step-is) (p′ .step-is)
+
+  pub dock-sends-only : {out : Lent (List ℕ)} {out′ : RefT (List ℕ)} → DockSends decide number state identity svids out bytes →
+      DockSends decide number′ (leaving state state′) identity svids (leaving out out′) (leaving bytes bytes′) →
+      ((number ≡ number′) × (left state ≡ now state′) × (left bytes ≡ now bytes′)) × (left out ≡ now out′)
+  dock-sends-only p p′ = (dock-step-only (p .step-is) (p′ .step-is), p .buffer-is ∙ sym (p′ .buffer-is))
+
+pub dock-loads-only : {newIdentity newSvids : List ℕ} {number number′ : ℕ} {state identity svids : Lent (List ℕ)} {bytes : Lent ℕ}
+    {state′ identity′ svids′ : RefT (List ℕ)} {bytes′ : RefT ℕ} → DockLoads newIdentity newSvids number state identity svids bytes →
+    DockLoads newIdentity newSvids number′ (leaving state state′) (leaving identity identity′) (leaving svids svids′) (leaving bytes bytes′) →
+    ((number ≡ number′) × (left state ≡ now state′) × (left bytes ≡ now bytes′)) × (left identity ≡ now identity′) × (left svids ≡ now svids′)
+dock-loads-only {identity = identity} {svids = svids} p p′ =
+    let step-same = dock-step-only (p .step-is) (p′ .step-is) in
+    (step-same, accepted-only _ (lent identity) (step-same .0) (p .identity-is) (p′ .identity-is), accepted-only _ (lent svids) (step-same .0) (p .svids-is) (p′ .svids-is))
+
+module _ {number number′ : ℕ} {state handed : Lent (List ℕ)} {state′ handed′ : RefT (List ℕ)} where
+  pub laptop-sends-nothing-only : {decide : Laptop → Laptop·Decision} → LaptopSendsNothing decide number state handed →
+      LaptopSendsNothing decide number′ (leaving state state′) (leaving handed handed′) →
+      (number ≡ number′) × (left state ≡ now state′) × (left handed ≡ now handed′)
+  laptop-sends-nothing-only p p′ = laptop-step-only (p .step-is) (p′ .step-is)
+
+  pub laptop-sends-only : {decide : Laptop → Laptop·Decision} {out : Lent (List ℕ)} {out′ : RefT (List ℕ)} →
+      LaptopSends decide number state out handed → LaptopSends decide number′ (leaving state state′) (leaving out out′) (leaving handed handed′) →
+      ((number ≡ number′) × (left state ≡ now state′) × (left handed ≡ now handed′)) × (left out ≡ now out′)
+  laptop-sends-only p p′ = (laptop-step-only (p .step-is) (p′ .step-is), p .buffer-is ∙ sym (p′ .buffer-is))
+
+  pub laptop-hears-only : {bytes : List ℕ} {before after after′ : Memory} →
+      LaptopHears bytes number state (record { entry = before; exit = after }) handed →
+      LaptopHears bytes number′ (leaving state state′) (record { entry = before; exit = after′ }) (leaving handed handed′) →
+      ((number ≡ number′) × (left state ≡ now state′) × (left handed ≡ now handed′)) × (after ≡ after′)
+  laptop-hears-only p p′ = (laptop-step-only (p .step-is) (p′ .step-is), p .memory-is ∙ sym (p′ .memory-is))
+
+pub catalogue-only : {held : HeldCatalogue} {run : List ℕ} {number number′ : ℕ} {out : Lent (List ℕ)} {bytes : Lent ℕ} {out′ : RefT (List ℕ)}
+    {bytes′ : RefT ℕ} → CatalogueCall held run number out bytes → CatalogueCall held run number′ (leaving out out′) (leaving bytes bytes′) →
+    (number ≡ number′) × (left bytes ≡ now bytes′) × (left out ≡ now out′)
+catalogue-only {bytes = bytes} p p′ =
+    let same = p .number-is ∙ sym (p′ .number-is) in
+    (same, accepted-only _ (lent bytes) same (p .bytes-is) (p′ .bytes-is), p .buffer-is ∙ sym (p′ .buffer-is))
+
+-- a fresh dock, a fresh laptop, and the report
+pub dock-fresh-only : {state identity svids state′ identity′ svids′ : List ℕ} →
+    (state ≡ dockNumbers freshDock) × (identity ≡ freshDock .identity) × (svids ≡ freshDock .svids) →
+    (state′ ≡ dockNumbers freshDock) × (identity′ ≡ freshDock .identity) × (svids′ ≡ freshDock .svids) →
+    (state ≡ state′) × (identity ≡ identity′) × (svids ≡ svids′)
+dock-fresh-only p p′ = (p .0 ∙ sym (p′ .0), p .1 ∙ sym (p′ .1), p .2 ∙ sym (p′ .2))
+
+pub laptop-fresh-only : {state entered state′ entered′ : List ℕ} → (state ≡ laptopNumbers freshLaptop) × (entered ≡ replicate 72 0) →
+    (state′ ≡ laptopNumbers freshLaptop) × (entered′ ≡ replicate 72 0) → (state ≡ state′) × (entered ≡ entered′)
+laptop-fresh-only p p′ = (p .0 ∙ sym (p′ .0), p .1 ∙ sym (p′ .1))
+
+pub report-only : (state heldSvids entered : List ℕ) (svid number number′ : ℕ) → number ≡ reported (laptopFrom state .held) heldSvids entered svid →
+    number′ ≡ reported (laptopFrom state .held) heldSvids entered svid → number ≡ number′
+report-only state heldSvids entered svid number number′ e e′ = e ∙ sym e′

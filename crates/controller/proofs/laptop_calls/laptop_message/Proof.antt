@@ -1,0 +1,35 @@
+-- `laptop_message` meets its promise.
+use mathlib.Core.Path.{refl}
+use Rattle.controller.proofs.LaptopHanding.{hears-in}
+use borrow.Author.Needs.{needs}
+use Rattle.controller.proofs.laptop_calls.laptop_message.Statement.{statement}
+use Rattle.controller.proofs.laptop_calls.laptop_message.Tie as tie
+
+laptop-from-requires : tie.Need-laptop-from-requires
+laptop-from-requires c κs = search needs
+
+message-requires : tie.Need-message-requires
+message-requires c κs = search needs
+
+hand-over-requires : tie.Need-hand-over-requires
+hand-over-requires c κs = search needs
+
+same-length : tie.Need-same-length
+same-length c = search needs
+
+same-length-2 : tie.Need-same-length-2
+same-length-2 c = search needs
+
+returns : tie.Need-returns
+returns c = hears-in (c .hand-over .ensures) refl refl refl refl (c .before .before .before .before .before .before .before .before .before .before .before .before .before .before .before .before .before .laptop-from .ensures) (c .before .before .before .before .before .before .before .message .ensures)
+
+pub laptop-message-spec : {M : Type 1} → statement M
+laptop-message-spec =
+    tie.close
+    (tie.spec
+    laptop-from-requires
+    message-requires
+    hand-over-requires
+    same-length
+    same-length-2
+    returns)

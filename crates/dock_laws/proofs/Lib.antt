@@ -1,0 +1,12 @@
+-- What the dock keeps, a file for each topic.
+pub mod Answers
+pub mod Fates
+pub mod Given
+pub mod Keeping
+pub mod Limits
+pub mod Loading
+pub mod Messages
+pub mod Replaced
+pub mod Sending
+pub mod Sent
+pub mod Tight

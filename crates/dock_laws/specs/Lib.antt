@@ -1,0 +1,3 @@
+-- The dock as a whole: every call, and when it is refused.
+pub mod Effects
+pub mod Given

@@ -1,0 +1,2 @@
+-- What the programs' loops share.
+pub mod Budget

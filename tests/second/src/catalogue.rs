@@ -3,7 +3,7 @@
 
 use crate::messages::{MOST_AFTER_HEADER, OBJECT_BYTES};
 use crate::pages::MOST_SVIDS;
-use crate::refusals::SHORT_BUFFER;
+use crate::refusals::{NOT_HELD, SHORT_BUFFER};
 
 /// The words of a run that one SVID has.
 pub const MOST_MODES: usize = MOST_AFTER_HEADER;
@@ -13,6 +13,8 @@ pub const MOST_CATALOGUE_BYTES: usize = 1
     + MOST_SVIDS * (1 + size_of::<u16>() + MOST_MODES * (1 + OBJECT_BYTES))
     + 1;
 
+/// The least identity objects of a catalogue: their number is the identity's kind.
+const LEAST_OBJECTS: usize = 3;
 const SVID_KIND: u8 = 0x10;
 const MODE_KIND: u8 = 0x20;
 const END_KIND: u8 = 0x00;
@@ -66,9 +68,12 @@ impl Catalogue {
         }
     }
 
-    /// Writes the catalogue's bytes at the start of `out` and gives their number, or refuses with
-    /// 11 and writes nothing.
+    /// Writes the catalogue's bytes at the start of `out` and gives their number, or writes nothing
+    /// and refuses with 12 for too few identity objects, then 11 for a short buffer.
     pub fn write(&self, run: &[u32], out: &mut [u8]) -> Result<usize, u8> {
+        if self.identity.len() < LEAST_OBJECTS {
+            return Err(NOT_HELD);
+        }
         let bytes = self.bytes(run);
         let Some(start) = out.get_mut(..bytes.len()) else {
             return Err(SHORT_BUFFER);

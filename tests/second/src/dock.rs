@@ -77,6 +77,10 @@ impl Dock {
         self.page
     }
 
+    pub fn identity_count(&self) -> usize {
+        self.identity.len()
+    }
+
     pub fn svid_count(&self) -> usize {
         self.svids.len()
     }

@@ -19,6 +19,7 @@ pub mod pages;
 pub mod random;
 pub mod reached;
 pub mod refusals;
+pub mod steps;
 pub mod stream;
 pub mod vectors;
 pub mod watcher;

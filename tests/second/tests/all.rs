@@ -15,5 +15,6 @@ mod link_events;
 mod messages;
 mod pages;
 mod reached;
+mod steps;
 mod vectors;
 mod watcher;

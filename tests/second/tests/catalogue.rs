@@ -1,7 +1,7 @@
 //! Catalogue bytes, held against values worked out by hand from document 01.
 
 use crate::bench::{Bench, UNWRITTEN_WORD};
-use second::catalogue::MOST_CATALOGUE_BYTES;
+use second::catalogue::{Catalogue, MOST_CATALOGUE_BYTES, RUN_WORDS};
 
 /// Case L's catalogue.
 const CASE_L: [u8; 22] = [
@@ -67,6 +67,28 @@ fn an_empty_catalogue_is_identity_and_end() {
     bytes.push(0);
     assert_eq!(written(&bench, 26), Ok(bytes));
     assert_eq!(written(&bench, 25), Err(11));
+}
+
+#[test]
+fn fewer_than_three_identity_objects_are_refused_12_before_a_short_buffer() {
+    for objects in 0..=6 {
+        let catalogue = Catalogue::of_identity(&[1, 2, 3, 4, 5, 6][..objects]);
+        let length = 4 * objects + 2;
+        for room in [0, length - 1, length, 2402] {
+            let mut out = vec![0x5A; room];
+            let result = catalogue.write(&[0; RUN_WORDS], &mut out);
+            if objects < 3 {
+                assert_eq!(result, Err(12));
+            } else if room < length {
+                assert_eq!(result, Err(11));
+            } else {
+                assert_eq!(result, Ok(length));
+                assert_eq!(usize::from(out[0]), objects);
+            }
+            let written = result.unwrap_or(0);
+            assert!(out[written..].iter().all(|&byte| byte == 0x5A));
+        }
+    }
 }
 
 #[test]

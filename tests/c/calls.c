@@ -1,0 +1,170 @@
+/* The calls that a step can name, over what is lent. */
+#include "calls.h"
+
+#include "lent.h"
+#include "shown.h"
+#include "words.h"
+
+#include <string.h>
+
+/* How much of the buffers and runs a call is lent. */
+static controller_count room = CONTROLLER_MESSAGE_BYTES, run_words = CONTROLLER_RUN_WORDS, held_run_words = CONTROLLER_RUN_WORDS;
+
+/* The dock's calls. */
+
+static unsigned fresh_dock(void) {
+    memset(&lent.dock, UNWRITTEN, sizeof lent.dock);
+    dock_fresh(lent.dock.state, lent.dock.identity, lent.dock.svids);
+    return CONTROLLER_ACCEPTED;
+}
+
+static unsigned load(void) {
+    struct dock *d = &lent.dock;
+    uint32_t identity[MOST_WORDS];
+    uint16_t svids[MOST_WORDS];
+    controller_count objects = take_objects(1, identity), count = take_svids(objects + 2, svids);
+    return dock_load(d->state, d->identity, d->svids, identity, objects, svids, count, &d->length);
+}
+
+static unsigned ask(void) {
+    struct dock *d = &lent.dock;
+    uint8_t bytes[4 * MOST_WORDS];
+    controller_count count = take_bytes(bytes);
+    return dock_message(d->state, d->identity, d->svids, bytes, count, d->out, room, &d->length);
+}
+
+static unsigned answer(void) {
+    struct dock *d = &lent.dock;
+    uint32_t objects[MOST_WORDS];
+    controller_count count = take_objects(5, objects);
+    return dock_policy_answer(d->state, d->identity, d->svids, decimal(1), hex(2), decimal(3), decimal(4), objects, count, d->out, room, &d->length);
+}
+
+static unsigned sent(void) { return dock_sent(lent.dock.state, lent.dock.identity, lent.dock.svids, &lent.dock.length); }
+static unsigned failed(void) { return dock_failed(lent.dock.state, lent.dock.identity, lent.dock.svids, &lent.dock.length); }
+
+/* The laptop's calls. */
+
+static unsigned fresh_laptop(void) {
+    memset(&lent.laptop, UNWRITTEN, sizeof lent.laptop);
+    laptop_fresh(lent.laptop.state, lent.laptop.entered);
+    return CONTROLLER_ACCEPTED;
+}
+
+static unsigned hear(void) {
+    struct laptop *l = &lent.laptop;
+    uint8_t bytes[4 * MOST_WORDS];
+    controller_count count = take_bytes(bytes);
+    return laptop_message(l->state, bytes, count, l->svids, l->modes, l->identity, l->run, run_words, l->held_svids, l->held_modes, l->held_identity,
+                          l->held_run, held_run_words, l->entered, l->handed);
+}
+
+static unsigned report(void) { return laptop_report(lent.laptop.state, hex(1), lent.laptop.held_svids, lent.laptop.entered); }
+
+static unsigned next(void) {
+    struct laptop *l = &lent.laptop;
+    return laptop_next(l->state, l->svids, l->entered, l->run, run_words, l->held_run, held_run_words, l->out, room, l->handed);
+}
+
+static unsigned start_over(void) {
+    struct laptop *l = &lent.laptop;
+    return laptop_start_over(l->state, l->entered, l->run, run_words, l->held_run, held_run_words, l->out, room, l->handed);
+}
+
+static unsigned drop(void) {
+    struct laptop *l = &lent.laptop;
+    return laptop_drop(l->state, l->run, run_words, l->held_run, held_run_words, l->out, room, l->handed);
+}
+
+static unsigned enter(void) {
+    struct laptop *l = &lent.laptop;
+    return laptop_enter(l->state, hex(1), decimal(2), l->held_svids, l->held_modes, l->entered, l->run, run_words, l->held_run, held_run_words, l->out,
+                        room, l->handed);
+}
+
+static unsigned leave(void) {
+    struct laptop *l = &lent.laptop;
+    return laptop_exit(l->state, hex(1), decimal(2), l->held_svids, l->held_modes, l->entered, l->run, run_words, l->held_run, held_run_words, l->out,
+                       room, l->handed);
+}
+
+static unsigned response_timer(void) { return laptop_response_timer(lent.laptop.state, lent.laptop.handed); }
+static unsigned entry_timer(void) { return laptop_entry_timer(lent.laptop.state, lent.laptop.handed); }
+static unsigned exit_timer(void) { return laptop_exit_timer(lent.laptop.state, lent.laptop.handed); }
+static unsigned protocol_error(void) { return laptop_protocol_error(lent.laptop.state, lent.laptop.handed); }
+
+static unsigned write_catalogue(void) {
+    struct laptop *l = &lent.laptop;
+    return catalogue_write(l->state, l->held_svids, l->held_modes, l->held_identity, l->held_run, held_run_words, l->catalogue,
+                           part_of(1, CONTROLLER_CATALOGUE_BYTES), &l->catalogue_length);
+}
+
+/* What the steps set between calls. */
+
+static unsigned set_room(void) {
+    room = part_of(1, CONTROLLER_MESSAGE_BYTES);
+    return CONTROLLER_ACCEPTED;
+}
+
+static unsigned set_runs(void) {
+    run_words = part_of(1, CONTROLLER_RUN_WORDS);
+    held_run_words = part_of(2, CONTROLLER_RUN_WORDS);
+    return CONTROLLER_ACCEPTED;
+}
+
+/* Ill-formed numbers that count as those that stood there: a tag of 0 becomes an unknown one, and bytes get bits above their eight. */
+static void stray_tags(uint16_t *state, const int *tags, size_t count) {
+    for (size_t i = 0; i < count; i++)
+        if (state[tags[i]] == 0) state[tags[i]] = 0x0901;
+}
+
+static void stray_bytes(uint16_t *state, const int *bytes, size_t count) {
+    for (size_t i = 0; i < count; i++) state[bytes[i]] |= 0x5A00;
+}
+
+static unsigned stray(void) {
+    static const int dock_tags[] = {3}, dock_bytes[] = {0, 1, 2, 5, 6}, laptop_tags[] = {0, 4, 9}, laptop_bytes[] = {2, 3, 5, 6, 7, 8, 10, 11};
+    struct laptop *l = &lent.laptop;
+    stray_tags(lent.dock.state, dock_tags, 1);
+    stray_bytes(lent.dock.state, dock_bytes, 5);
+    stray_tags(l->state, laptop_tags, 3);
+    stray_bytes(l->state, laptop_bytes, 8);
+    for (int i = 0; i < CONTROLLER_SVIDS; i++) {
+        l->entered[i] |= 0xC0;
+        if (l->modes[i] == CONTROLLER_MODES) l->modes[i] = 250;
+        if (l->held_modes[i] == CONTROLLER_MODES) l->held_modes[i] = 250;
+    }
+    return CONTROLLER_ACCEPTED;
+}
+
+static const struct step STEPS[] = {
+    {"dock_fresh", fresh_dock, show_fresh_dock},
+    {"dock_load", load, show_dock},
+    {"dock_message", ask, show_dock},
+    {"dock_policy_answer", answer, show_dock},
+    {"dock_sent", sent, show_dock},
+    {"dock_failed", failed, show_dock},
+    {"laptop_fresh", fresh_laptop, show_fresh_laptop},
+    {"laptop_message", hear, show_laptop},
+    {"laptop_report", report, show_report},
+    {"laptop_next", next, show_laptop},
+    {"laptop_start_over", start_over, show_laptop},
+    {"laptop_drop", drop, show_laptop},
+    {"laptop_enter", enter, show_laptop},
+    {"laptop_exit", leave, show_laptop},
+    {"laptop_response_timer", response_timer, show_laptop},
+    {"laptop_entry_timer", entry_timer, show_laptop},
+    {"laptop_exit_timer", exit_timer, show_laptop},
+    {"laptop_protocol_error", protocol_error, show_laptop},
+    {"catalogue_write", write_catalogue, show_catalogue},
+    {"room", set_room, show_set},
+    {"runs", set_runs, show_set},
+    {"stray", stray, show_set},
+};
+
+const struct step *step_named(const char *name) {
+    for (size_t i = 0; i < sizeof STEPS / sizeof *STEPS; i++)
+        if (strcmp(STEPS[i].name, name) == 0) return &STEPS[i];
+    fail("an unknown step", name);
+    return NULL;
+}

@@ -1,0 +1,144 @@
+/* What is printed of a call. */
+#include "shown.h"
+
+#include "lent.h"
+
+#include <stddef.h>
+#include <stdio.h>
+#include <string.h>
+
+/* A state's number as it counts: a tag up to the greatest there is, a byte's eight bits. */
+static unsigned tag(uint16_t value, unsigned greatest) { return value > greatest ? 0 : value; }
+static unsigned byte(uint16_t value) { return value & 0xFF; }
+
+static void print_request(const uint16_t *state) { printf(" %04X %u %u", state[0], byte(state[1]), byte(state[2])); }
+
+/* Whether a page or another answer is being sent is seen by what "sent" leads to. */
+static void print_dock(void) {
+    static const char *const standings[4] = {"ready", "asking", "sending", "sending"};
+    const uint16_t *state = lent.dock.state;
+    unsigned standing = tag(state[CONTROLLER_DOCK_STANDING], CONTROLLER_SENDING_A_PAGE);
+    printf(", state %u %u %u %s", byte(state[CONTROLLER_DOCK_OBJECTS]), byte(state[CONTROLLER_DOCK_COUNT]), byte(state[CONTROLLER_DOCK_PAGE]),
+           standings[standing]);
+    if (standing == CONTROLLER_ASKING) print_request(state + CONTROLLER_DOCK_SVID);
+}
+
+/* A number that stands for nothing is a dash. */
+static void print_laptop(void) {
+    const uint16_t *state = lent.laptop.state;
+    unsigned candidate = tag(state[CONTROLLER_LAPTOP_CANDIDATE], 2);
+    printf(", state %u", tag(state[CONTROLLER_LAPTOP_AWAITED], 1));
+    if (tag(state[CONTROLLER_LAPTOP_AWAITED], 1)) print_request(state + CONTROLLER_LAPTOP_SVID);
+    else printf(" - - -");
+    printf(" %u", candidate);
+    if (candidate)
+        printf(" %u %u %u", byte(state[CONTROLLER_LAPTOP_OBJECTS]), byte(state[CONTROLLER_LAPTOP_COUNT]), byte(state[CONTROLLER_LAPTOP_FILLED]));
+    else printf(" - - -");
+    printf(" %u", byte(state[CONTROLLER_LAPTOP_PAGES]));
+    if (tag(state[CONTROLLER_LAPTOP_HELD], 1)) printf(" 1 %u %u", byte(state[CONTROLLER_LAPTOP_HELD_OBJECTS]), byte(state[CONTROLLER_LAPTOP_HELD_COUNT]));
+    else printf(" 0 - -");
+}
+
+static const struct part {
+    const char *name;
+    size_t at, size;
+} PARTS[] = {
+#define PART(name, end, field) {name, offsetof(struct lent, end.field), sizeof lent.end.field}
+    PART("dock_state", dock, state),
+    PART("dock_identity", dock, identity),
+    PART("dock_svids", dock, svids),
+    PART("dock_out", dock, out),
+    PART("dock_length", dock, length),
+    PART("state", laptop, state),
+    PART("svids", laptop, svids),
+    PART("modes", laptop, modes),
+    PART("identity", laptop, identity),
+    PART("run", laptop, run),
+    PART("held_svids", laptop, held_svids),
+    PART("held_modes", laptop, held_modes),
+    PART("held_identity", laptop, held_identity),
+    PART("held_run", laptop, held_run),
+    PART("entered", laptop, entered),
+    PART("handed", laptop, handed),
+    PART("out", laptop, out),
+    PART("catalogue", laptop, catalogue),
+    PART("catalogue_length", laptop, catalogue_length),
+#undef PART
+};
+
+/* The number of a refusal, and the names of what it changed. */
+static void print_refusal(unsigned refusal) {
+    int changes = 0;
+    printf("refused %u, changed", refusal);
+    for (size_t i = 0; i < sizeof PARTS / sizeof *PARTS; i++) {
+        if (memcmp((const char *)&lent + PARTS[i].at, (const char *)&before + PARTS[i].at, PARTS[i].size) == 0) continue;
+        printf(" %s", PARTS[i].name);
+        changes++;
+    }
+    if (changes == 0) printf(" nothing");
+}
+
+/* The objects to be sent; the bytes past them have to be as they were. */
+static void print_sent(const uint8_t *out, uint32_t length) {
+    printf(", sends");
+    if (length == 0) printf(" nothing");
+    for (uint32_t i = 0; i + 4 <= length; i += 4) printf(" %08X", (unsigned)object_at(out + i));
+    for (uint32_t i = length; i < CONTROLLER_MESSAGE_BYTES; i++)
+        if (out[i] != UNWRITTEN) printf(", writes byte %u of the buffer", (unsigned)i);
+}
+
+/* The words of a run that the call wrote. */
+static void print_written(const char *name, const uint32_t *run, const uint32_t *old) {
+    for (int i = 0; i < CONTROLLER_RUN_WORDS; i++)
+        if (run[i] != old[i]) printf(", %s %d is %08X", name, i, (unsigned)run[i]);
+}
+
+void show_dock(unsigned refusal) {
+    if (refusal == CONTROLLER_ACCEPTED) {
+        printf("accepted, length %u", lent.dock.length);
+        print_sent(lent.dock.out, lent.dock.length);
+    } else print_refusal(refusal);
+    print_dock();
+}
+
+void show_laptop(unsigned refusal) {
+    const uint32_t *handed = lent.laptop.handed;
+    if (refusal == CONTROLLER_ACCEPTED) {
+        printf("accepted, handed %u %u %04X %u %u %u %08X", (unsigned)handed[0], (unsigned)handed[1], (unsigned)handed[2], (unsigned)handed[3],
+               (unsigned)handed[4], (unsigned)handed[5], (unsigned)handed[6]);
+        print_sent(lent.laptop.out, handed[CONTROLLER_HANDED_LENGTH]);
+        print_written("run", lent.laptop.run, before.laptop.run);
+        print_written("held_run", lent.laptop.held_run, before.laptop.held_run);
+    } else print_refusal(refusal);
+    print_laptop();
+}
+
+void show_catalogue(unsigned refusal) {
+    if (refusal != CONTROLLER_ACCEPTED) {
+        print_refusal(refusal);
+        return;
+    }
+    printf("accepted, length %u, bytes ", lent.laptop.catalogue_length);
+    for (int i = 0; i < lent.laptop.catalogue_length; i++) printf("%02X", lent.laptop.catalogue[i]);
+    for (int i = lent.laptop.catalogue_length; i < CONTROLLER_CATALOGUE_BYTES; i++)
+        if (lent.laptop.catalogue[i] != UNWRITTEN) printf(", writes byte %d of the buffer", i);
+}
+
+void show_fresh_dock(unsigned refusal) {
+    (void)refusal;
+    printf("made");
+    print_dock();
+}
+
+void show_fresh_laptop(unsigned refusal) {
+    (void)refusal;
+    printf("made");
+    print_laptop();
+}
+
+void show_report(unsigned entered) { printf("%u entered", entered); }
+
+void show_set(unsigned refusal) {
+    (void)refusal;
+    printf("set");
+}

@@ -17,26 +17,26 @@ use Rattle.laptop.specs.declared.Size.{Size}
 use Rattle.catalogue.specs.Bytes.{catalogueBytes, catalogueOf, leastObjects, HeldCatalogue, nothing, holding, heldCatalogue, sizeRefusal, heldRefusal, catalogueRefusal, heldBytes, writtenBytes, writtenInto, CatalogueWritten}
 use Rattle.catalogue.specs.declared.Bytes.{Bytes}
 
-module _ (objects bytes room : ℕ) where
-  pub size-few : objects < leastObjects → 12 ≡ sizeRefusal objects bytes room
+module _ (extent bytes room : ℕ) where
+  pub size-few : extent < leastObjects → 12 ≡ sizeRefusal extent bytes room
   unfolding sizeRefusal
   size-few few = simp (lt-ltb _ _ few)
 
-  pub size-short : leastObjects ≤ objects → room < bytes → 11 ≡ sizeRefusal objects bytes room
+  pub size-short : leastObjects ≤ extent → room < bytes → 11 ≡ sizeRefusal extent bytes room
   unfolding sizeRefusal
   size-short enough short = simp (le-ltb _ _ enough, lt-ltb _ _ short)
 
-  pub size-fits : leastObjects ≤ objects → bytes ≤ room → 0 ≡ sizeRefusal objects bytes room
+  pub size-fits : leastObjects ≤ extent → bytes ≤ room → 0 ≡ sizeRefusal extent bytes room
   unfolding sizeRefusal
   size-fits enough fits = simp (le-ltb _ _ enough, le-ltb _ _ fits)
 
-  -- what is not refused has enough objects, and room
-  pub size-taken : sizeRefusal objects bytes room ≡ 0 → (leastObjects ≤ objects) × (bytes ≤ room)
+  -- what is not refused has enough extent, and room
+  pub size-taken : sizeRefusal extent bytes room ≡ 0 → (leastObjects ≤ extent) × (bytes ≤ room)
   unfolding sizeRefusal
-  size-taken = go (ltb objects leastObjects) (ltb room bytes) (ltb-false objects leastObjects) (ltb-false room bytes)
+  size-taken = go (ltb extent leastObjects) (ltb room bytes) (ltb-false extent leastObjects) (ltb-false room bytes)
     where
-      go : (few short : Bool) → (few ≡ false → leastObjects ≤ objects) → (short ≡ false → bytes ≤ room) →
-          _≡_ {A = ℕ} (cond few 12 (cond short 11 0)) 0 → (leastObjects ≤ objects) × (bytes ≤ room)
+      go : (few short : Bool) → (few ≡ false → leastObjects ≤ extent) → (short ≡ false → bytes ≤ room) →
+          _≡_ {A = ℕ} (cond few 12 (cond short 11 0)) 0 → (leastObjects ≤ extent) × (bytes ≤ room)
       go true short enough fits e = absurd (omega (arith, e))
       go false true enough fits e = absurd (omega (arith, e))
       go false false enough fits e = (enough refl, fits refl)

@@ -86,7 +86,7 @@ heldCatalogue (Held·Catalogue size) identity svids modes run = holding (catalog
 -- 11 for a run of too few words comes first, then 12, and 11 for a buffer without the room comes last; fewer than three identity objects
 -- are no catalogue, and their number would be no kind of an identity
 unfoldable pub sizeRefusal : ℕ → ℕ → ℕ → ℕ
-sizeRefusal objects bytes room = cond (ltb objects leastObjects) 12 (cond (ltb room bytes) 11 0)
+sizeRefusal extent bytes room = cond (ltb extent leastObjects) 12 (cond (ltb room bytes) 11 0)
 
 unfoldable pub heldRefusal : HeldCatalogue → ℕ → ℕ
 heldRefusal nothing room = 12

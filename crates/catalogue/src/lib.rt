@@ -63,10 +63,10 @@ fn refused(number: u8) -> Bytes
 }
 
 // Too few identity objects are no catalogue: 12, then 11 for a short buffer.
-fn size_refusal(objects: usize, bytes: usize, room: usize) -> u8
-    ensures { λ r. ⌜ r ≡ sizeRefusal objects bytes room ⌝ }
+fn size_refusal(extent: usize, bytes: usize, room: usize) -> u8
+    ensures { λ r. ⌜ r ≡ sizeRefusal extent bytes room ⌝ }
 {
-    if objects < LEAST_OBJECTS {
+    if extent < LEAST_OBJECTS {
         return 12;
     }
     if room < bytes {

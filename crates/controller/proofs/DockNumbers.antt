@@ -18,12 +18,12 @@ sending-page s isPage es ep = rw (es, ep)
 pub sending-other : (s : Standing) (isPage : Bool) → s ≡ Sending isPage → isPage ≡ false → (2 ∷ 0 ∷ 0 ∷ 0 ∷ []) ≡ standingNumbers s
 sending-other s isPage es ep = rw (es, ep)
 
-pub dock-is : (s identity svids : List ℕ) (request : Request) (objects count page : ℕ) (standing : Standing) →
-    objects ≡ lowByte (getD s 0 0) → count ≡ lowByte (getD s 1 0) → page ≡ lowByte (getD s 2 0) →
+pub dock-is : (s identity svids : List ℕ) (request : Request) (extent count page : ℕ) (standing : Standing) →
+    extent ≡ lowByte (getD s 0 0) → count ≡ lowByte (getD s 1 0) → page ≡ lowByte (getD s 2 0) →
     standing ≡ standingFrom (getD s 3 0) request → request ≡ requestFrom (getD s 4 0) (getD s 5 0) (getD s 6 0) →
-    _≡_ {A = Dock} (record { identity = identity; extent = objects; svids = svids; count = count; page = page; standing = standing }) (dockFrom s identity svids)
+    _≡_ {A = Dock} (record { identity = identity; extent = extent; svids = svids; count = count; page = page; standing = standing }) (dockFrom s identity svids)
 unfolding dockFrom
-dock-is s identity svids request objects count page standing eo ec ep es er = rw (eo, ec, ep, es, er)
+dock-is s identity svids request extent count page standing eo ec ep es er = rw (eo, ec, ep, es, er)
 
 pub numbers-are : (d : Dock) (standing : List ℕ) → standing ≡ standingNumbers (d .standing) → numbersWith standing d ≡ dockNumbers d
 unfolding dockNumbers
@@ -36,7 +36,7 @@ StandingFits (Asking r) = (r .command < 256) × (r .position < 256)
 StandingFits (Sending isPage) = Unit
 
 pub record Fits (d : Dock) : Type 0 where
-  pub objects-fit : d .extent < 256
+  pub extent-fits : d .extent < 256
   pub count-fits : d .count < 256
   pub page-fits : d .page < 256
   pub standing-fits : StandingFits (d .standing)
@@ -52,4 +52,4 @@ standing-again (Sending false) h = refl
 pub from-numbers : (d : Dock) → Fits d → dockFrom (dockNumbers d) (d .identity) (d .svids) ≡ d
 unfolding dockFrom dockNumbers
 from-numbers d h =
-    rw (byte-again (d .extent) (h .objects-fit), byte-again (d .count) (h .count-fits), byte-again (d .page) (h .page-fits), standing-again (d .standing) (h .standing-fits))
+    rw (byte-again (d .extent) (h .extent-fits), byte-again (d .count) (h .count-fits), byte-again (d .page) (h .page-fits), standing-again (d .standing) (h .standing-fits))

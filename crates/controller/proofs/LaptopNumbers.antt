@@ -24,9 +24,9 @@ pub request-is : (svid a b command position : ℕ) → a ≡ lowByte command →
     _≡_ {A = Request} (record { svid = svid; command = a; position = b }) (requestFrom svid command position)
 request-is svid a b command position ea eb = rw (ea, eb)
 
-pub size-is : (a b objects count : ℕ) → a ≡ lowByte objects → b ≡ lowByte count →
-    _≡_ {A = Size} (record { extent = a; count = b }) (sizeFrom objects count)
-size-is a b objects count ea eb = rw (ea, eb)
+pub size-is : (a b extent count : ℕ) → a ≡ lowByte extent → b ≡ lowByte count →
+    _≡_ {A = Size} (record { extent = a; count = b }) (sizeFrom extent count)
+size-is a b extent count ea eb = rw (ea, eb)
 
 pub laptop-is : (s : List ℕ) (request : Request) (size gathered : Size) (wait : Wait) (candidate : Candidate) (stored pages : ℕ) (held : Held) →
     wait ≡ waitFrom (getD s 0 0) request → request ≡ requestFrom (getD s 1 0) (getD s 2 0) (getD s 3 0) → candidate ≡ candidateFrom (getD s 4 0) →
@@ -99,9 +99,9 @@ wait-from-fits : (t : Bool) (svid command position : ℕ) → WaitFits (cond t (
 wait-from-fits true svid command position = (low-fits command, low-fits position)
 wait-from-fits false svid command position = tt
 
-held-from-fits : (t : Bool) (objects count : ℕ) → HeldFits (cond t (Catalogue (sizeFrom objects count)) Held·Nothing)
-held-from-fits true objects count = (low-fits objects, low-fits count)
-held-from-fits false objects count = tt
+held-from-fits : (t : Bool) (extent count : ℕ) → HeldFits (cond t (Catalogue (sizeFrom extent count)) Held·Nothing)
+held-from-fits true extent count = (low-fits extent, low-fits count)
+held-from-fits false extent count = tt
 
 stood-fits : (s : List ℕ) → Fits (laptopFrom s)
 unfolding laptopFrom

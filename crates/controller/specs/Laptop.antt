@@ -25,7 +25,7 @@ abbrev pub requestFrom : ℕ → ℕ → ℕ → Request
 requestFrom svid command position = record { svid = svid; command = lowByte command; position = lowByte position }
 
 abbrev pub sizeFrom : ℕ → ℕ → Size
-sizeFrom objects count = record { extent = lowByte objects; count = lowByte count }
+sizeFrom extent count = record { extent = lowByte extent; count = lowByte count }
 
 -- 1 an answer, any other nothing
 abbrev pub waitFrom : ℕ → Request → Wait

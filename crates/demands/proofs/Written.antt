@@ -32,7 +32,7 @@ module _ (identity svids modes run : List ℕ) (six : length identity ≡ mostOb
       let c : Catalogue = catalogueIn size identity svids modes run in
       let objects = length-take (size .extent) identity in
       let few : length (c .identity) ≤ mostObjects = omega (arith, objects) in
-      let least : leastObjects ≤ length (c .identity) = omega (arith, objects, fits .objects-least) in
+      let least : leastObjects ≤ length (c .identity) = omega (arith, objects, fits .extent-least) in
       let most : length (c .entries) ≤ mostSvids = omega (arith, length-entries modes run 0 (take (size .count) svids), length-take (size .count) svids, fits .count-fits) in
       let all : length (catalogueBytes c) ≤ mostBytes = bytes-most c few most (six-modes modes run 0 (take (size .count) svids)) in
       sym (size-fits (length (c .identity)) (length (catalogueBytes c)) room least (omega (arith, all)))

@@ -24,7 +24,7 @@ use Rattle.dock_laws.specs.Effects.{Call, load, message, policyAnswer, s
 
 -- not 3 to 6 identity objects
 abbrev pub NotThreeToSix : ℕ → Type 0
-NotThreeToSix objects = (objects < 3) ⊎ (6 < objects)
+NotThreeToSix extent = (extent < 3) ⊎ (6 < extent)
 
 -- data that breaks its limits: 3 to 6 identity objects; 0 to 72 SVIDs, none 0, all different
 pub data BreaksLimits (identity svids : List ℕ) : Type 0 where

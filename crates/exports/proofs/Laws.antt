@@ -1,12 +1,13 @@
--- A reading as numbers, by each case of the answer.
+-- A reading as numbers, by each case of the outcome.
 use mathlib.Core.Path.{_≡_, ap, sym, _∙_}
 use mathlib.Core.List.{List, [], _∷_}
 use Prim.Native.Nat.{ℕ}
 use lib.ListN.{length, getD}
 use Rattle.laws.specs.Padded.{padded}
 use Rattle.laws.proofs.Padded.{padded-at}
+use Rattle.laws.proofs.Tight.{one-value}
 use Rattle.messages.specs.Layout.{Message}
-use Rattle.messages.specs.Reading.{Outcome, accepted, refused, shown, readNumber}
+use Rattle.messages.specs.Reading.{Outcome, accepted, refused, readOutcome, shown, readNumber}
 use Rattle.messages.specs.declared.ReadAs.{ReadAs}
 use Rattle.messages.specs.declared.ReadAs.the-variants.{Refused}
 use Rattle.messages.specs.declared.ReadAs.the-variants.{Message as ReadAs·Message}
@@ -40,3 +41,9 @@ numbers-accepted o r h n into e a =
   where
     go : (m : Message) → m .head ≡ h → length (m .objects) ≡ n → (l : List ℕ) → padded (m .objects) ≡ l → eleven h n l ≡ numbersOf (accepted m) into
     go m head count l objects = rw (← head, ← count, ← objects) (eleven-numbers m into)
+
+-- a result that the promise allows is the only one
+pub read-only : (bytes into : List ℕ) (number other : ℕ) (after after′ : List ℕ) → (number ≡ numberOf (readOutcome bytes)) →
+    (after ≡ numbersOf (readOutcome bytes) into) → (other ≡ numberOf (readOutcome bytes)) → (after′ ≡ numbersOf (readOutcome bytes) into) →
+    (number ≡ other) × (after ≡ after′)
+read-only bytes into number other after after′ n a n′ a′ = (one-value n n′, one-value a a′)

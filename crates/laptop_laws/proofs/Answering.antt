@@ -111,8 +111,8 @@ nearly Done size pages stored svids modes f = f .0
 all-listed : (size : Size) (n : ℕ) (svids modes : List ℕ) → size .count ≤ n → Listed size n svids modes → Listed size (size .count) svids modes
 all-listed size n svids modes h f =
     record {
-      objects-least = f .objects-least;
-      objects-most = f .objects-most;
+      extent-least = f .extent-least;
+      extent-most = f .extent-most;
       count-fits = f .count-fits;
       list-sound = f .list-sound;
       some-modes = λ i k. f .some-modes i (omega arith);
@@ -235,8 +235,8 @@ module _ (l : Laptop) (m : Memory) (w : WellFormed l m) (none : anyEntered (m .e
         Listed (record { extent = x .gathered .extent; count = c }) 0 (sets (m .svids) (length (gatheredList x (m .svids))) v) (m .modes)
     grown c v e fit sound =
         record {
-          objects-least = listed .objects-least;
-          objects-most = listed .objects-most;
+          extent-least = listed .extent-least;
+          extent-most = listed .extent-most;
           count-fits = fit;
           list-sound =
               ap soundList (ap (λ (k : ℕ). take k (sets (m .svids) (length (gatheredList x (m .svids))) v)) e ∙ taken v (omega (arith, e))) ∙ sound;
@@ -300,8 +300,8 @@ module _ (l : Laptop) (m : Memory) (w : WellFormed l m) (none : anyEntered (m .e
     empty-listed : Listed (record { extent = l .gathered .extent; count = 0 }) (l .stored) (m .svids) (m .modes)
     empty-listed =
         record {
-          objects-least = open-fits .0 .objects-least;
-          objects-most = open-fits .0 .objects-most;
+          extent-least = open-fits .0 .extent-least;
+          extent-most = open-fits .0 .extent-most;
           count-fits = omega arith;
           list-sound = sound-nil;
           some-modes = λ i h. absurd (omega (arith, open-fits .2));
@@ -376,8 +376,8 @@ module _ (l : Laptop) (m : Memory) (w : WellFormed l m) (none : anyEntered (m .e
       more-listed : Listed (l .gathered) (l .stored + 1) (m .svids) (set (m .modes) (l .stored) n)
       more-listed =
           record {
-            objects-least = done-fits .0 .objects-least;
-            objects-most = done-fits .0 .objects-most;
+            extent-least = done-fits .0 .extent-least;
+            extent-most = done-fits .0 .extent-most;
             count-fits = done-fits .0 .count-fits;
             list-sound = done-fits .0 .list-sound;
             some-modes = λ i h. number-at i h .0;
@@ -438,8 +438,8 @@ module _ (l : Laptop) (m : Memory) (w : WellFormed l m) where
         held-fits = w .held-fits;
         candidate-fits = (
           record {
-            objects-least = least;
-            objects-most = most;
+            extent-least = least;
+            extent-most = most;
             count-fits = omega arith;
             list-sound = sound-nil;
             some-modes = λ i h. absurd (omega arith);

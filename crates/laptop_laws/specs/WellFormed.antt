@@ -36,8 +36,8 @@ pub record Lent (m : Memory) : Type 0 where
 -- a catalogue in arrays, of which the first n SVIDs have their modes: 3 to 6 identity objects; at most 72 SVIDs, none 0, all different; 1 to 6
 -- modes each, so that they fit 432 words
 pub record Listed (size : Size) (n : ℕ) (svids modes : List ℕ) : Type 0 where
-  pub objects-least : 3 ≤ size .extent
-  pub objects-most : size .extent ≤ 6
+  pub extent-least : 3 ≤ size .extent
+  pub extent-most : size .extent ≤ 6
   pub count-fits : size .count ≤ mostSvids
   pub list-sound : soundList (take (size .count) svids) ≡ true
   pub some-modes : (i : ℕ) → i < n → 1 ≤ getD modes i 0

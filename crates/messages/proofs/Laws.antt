@@ -116,7 +116,7 @@ pub write-only : (m : Message) (out : List ℕ) (number number′ : ℕ) (after 
 write-only m out number number′ after after′ w w′ =
     (w .number-is ∙ sym (w′ .number-is), w .buffer-is ∙ sym (w′ .buffer-is))
 
--- for whoever takes the answer apart: each case of it is one of the outcome
+-- for whoever takes what was read apart: each case of it is one of the outcome
 pub shown-refused : (o : Outcome) (r : Reading) (number : ℕ) → r ≡ shown o → r .outcome ≡ Refused number → o ≡ refused number
 unfolding shown
 shown-refused (accepted m) r number e a = absurd (let o : _≡_ {A = ℕ} 0 1 = cc (ap (λ (s : Reading). s .outcome) e) in omega arith)

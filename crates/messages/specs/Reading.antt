@@ -66,12 +66,12 @@ readOutcome b = outcome (readRefusal b) (messageIn b)
 abbrev pub objectsIn : List ℕ → List ℕ
 objectsIn b = padded (drop 1 (objectsOf b))
 
--- how the code's answer shows an outcome: 01's number, or its values
+-- how the code shows an outcome: 01's number, or its values
 unfoldable pub shown : Outcome → Reading
 shown (accepted m) = record { outcome = ReadAs·Message (m .head) (length (m .objects)); objects = padded (m .objects) }
 shown (refused number) = record { outcome = Refused number; objects = replicate 6 0 }
 
--- the refusal number of an answer, 0 for a message
+-- the refusal number of what was read, 0 for a message
 abbrev pub readNumber : ReadAs → ℕ
 readNumber (ReadAs·Message h count) = 0
 readNumber (Refused number) = number

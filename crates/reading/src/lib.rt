@@ -86,7 +86,7 @@ pub fn read(bytes: &[u8]) -> Reading
     }
 }
 
-// The refusal number of an answer, 0 for a message.
+// The refusal number of what was read, 0 for a message.
 pub fn number(outcome: ReadAs) -> u8
     ensures { λ r. ⌜ r ≡ readNumber outcome ⌝ }
 {

@@ -307,7 +307,7 @@ module _ (l v : List ℕ) where
   unfolding verdict
   bad-exactly = (λ e. bad-because judged-as (ap isBad e), λ b. ap shown (judged-exactly bad .1 (as-bad refl (b .0) (b .1))))
 
-  -- the code's answer says what the page is
+  -- the code's verdict says what the page is
   pub says-judged : meant v (verdict l v) ≡ judged l v
   unfolding verdict
   says-judged = go (isRepeat l v) (isFull v) (adds l v) (isEnding v && (not (nothing (length l) (before v)) && adds l (readOff v)))

@@ -76,14 +76,14 @@ abbrev pub judged : List ℕ → List ℕ → Judged
 judged list values =
     cond (isRepeat list values) repeats (cond (isFull values) (cond (adds list values) (full values) bad) (judgedEnding list values))
 
--- how the code's answer shows it
+-- how the code's verdict shows it
 abbrev pub shown : Judged → Verdict
 shown bad = Bad
 shown repeats = Repeat
 shown (full svids) = More
 shown (ends svids) = Ends (length svids)
 
--- and what that answer says of the page's values
+-- and what that verdict says of the page's values
 abbrev pub meant : List ℕ → Verdict → Judged
 meant values Bad = bad
 meant values Repeat = repeats

@@ -20,9 +20,9 @@ pub struct Answer {
 }
 
 // The bytes of a message, which stand behind its kind: they are all there, and testing it spares the proof.
-fn message_in(state: State, input: &[u8; BLOCK], objects: u8) -> &[u8] {
+fn message_in(state: State, input: &[u8; BLOCK], count: u8) -> &[u8] {
     let bytes = unread(state, input);
-    let end = 1 + (objects as usize) * OBJECT;
+    let end = 1 + (count as usize) * OBJECT;
     if end <= bytes.len() {
         return &bytes[1..end];
     }

@@ -1,4 +1,4 @@
--- `exports_read` meets its promise: it takes the answer apart, and each case of it is one of the outcome.
+-- `exports_read` meets its promise: it takes what was read apart, and each case of it is one of the outcome.
 use Rattle.messages.specs.Reading.{readOutcome}
 use Rattle.exports.proofs.Laws.{numbers-refused, numbers-accepted}
 use borrow.Author.Needs.{needs}

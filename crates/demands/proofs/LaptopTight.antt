@@ -19,10 +19,10 @@ use Rattle.catalogue.specs.Bytes.{heldCatalogue, CatalogueWritten}
 use Rattle.catalogue.proofs.Laws.{write-only}
 
 -- a promise of a result, and of a result with what is lent afterwards, allows one
-abbrev One : {A : Type 0} → (A → Type 0) → Type 0
+abbrev pub One : {A : Type 0} → (A → Type 0) → Type 0
 One {A} promise = (result other : A) → promise result → promise other → result ≡ other
 
-abbrev OneWith : {A B : Type 0} → (A → B → Type 0) → Type 0
+abbrev pub OneWith : {A B : Type 0} → (A → B → Type 0) → Type 0
 OneWith {A} {B} promise =
     (result other : A) (after after′ : B) → promise result after → promise other after′ → (result ≡ other) × (after ≡ after′)
 

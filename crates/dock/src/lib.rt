@@ -18,7 +18,7 @@ pub enum Standing {
     Sending(bool),
 }
 
-// The dock's data: identity objects and their number (0: not loaded), SVIDs, their number and the present page; and where it stands.
+// The dock's data: identity objects and their extent, which is their number (0: not loaded); SVIDs, their count and the present page; and where it stands.
 pub struct Dock {
     pub identity: [u32; 6],
     pub extent: u8,

@@ -38,7 +38,7 @@ pub enum Candidate {
     Done,
 }
 
-// How many identity objects and SVIDs a catalogue has.
+// How many identity objects (the extent) and SVIDs (the count) a catalogue has.
 pub struct Size {
     pub extent: u8,
     pub count: u8,
@@ -49,7 +49,7 @@ pub enum Held {
     Catalogue(Size),
 }
 
-// Besides what is awaited and where the candidate stands: the candidate's size, how many of its SVIDs have their modes, the pages counted
+// Besides what is awaited and where the candidate stands: the candidate's size, how many of its SVIDs have their modes stored, the pages counted
 // since the last Identity was sent, and the held catalogue's size.
 pub struct Laptop {
     pub wait: Wait,

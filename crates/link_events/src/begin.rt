@@ -52,7 +52,7 @@ fn exchange(far_end: FarEnd, command: u8) -> FarEnd {
 }
 
 // The dock answers Identity and so many times SVIDs, all of it "sent".
-fn turned(begun: FarEnd, pages: u8) -> FarEnd {
+fn advanced(begun: FarEnd, pages: u8) -> FarEnd {
     let mut far_end = exchange(begun, IDENTITY);
     let mut page = 0;
     while page < pages {
@@ -116,9 +116,9 @@ fn first_owner(holds_old: bool) -> Owner {
 
 pub fn begin(start: Start) -> State {
     let modes = start.modes;
-    let turned = turned(end_of(start.dock, modes), start.page);
+    let ahead = advanced(end_of(start.dock, modes), start.page);
     State {
         owner: first_owner(start.holds_old),
-        far_end: end_of(turned.dock, modes),
+        far_end: end_of(ahead.dock, modes),
     }
 }

@@ -1,4 +1,4 @@
--- `answer` meets its promise: it must name the request that waits, and then policy's word is followed.
+-- `policy_answer` meets its promise: it must name the request that waits, and then policy's word is followed.
 use mathlib.Core.Path.{sym, _∙_}
 use Rattle.dock.specs.Dock.{decidePolicy}
 use Rattle.dock.specs.declared.Policy.the-variants.{Give, Nak, Busy}

@@ -1,4 +1,4 @@
--- `turned_down` meets its promise.
+-- `declined_as` meets its promise.
 use Rattle.answers.proofs.Storing.{down-nak, down-other}
 use Rattle.answers.proofs.answers.declined_as.Statement.{statement}
 use Rattle.answers.proofs.answers.declined_as.Tie as tie

@@ -1,9 +1,9 @@
--- `link_events::begin::turned` is safe and ends. The measure is how many pages are left, and nothing has to hold from turn to turn.
+-- `link_events::begin::advanced` is safe and ends. The measure is how many pages are left, and nothing has to hold from turn to turn.
 -- Assumes nothing.
 use Prim.Native.Nat.{_-_}
 use borrow.Author.Needs.{needs}
-use Rattle.link_events.proofs.begin.turned.Statement.{statement}
-use Rattle.link_events.proofs.begin.turned.Tie as tie
+use Rattle.link_events.proofs.begin.advanced.Statement.{statement}
+use Rattle.link_events.proofs.begin.advanced.Tie as tie
 
 abbrev Inv-loop : tie.InvT-loop
 Inv-loop pages far-end₀ page₀ far-end page = Unit {0}
@@ -11,8 +11,8 @@ Inv-loop pages far-end₀ page₀ far-end page = Unit {0}
 abbrev μ-loop : tie.MeasureT-loop
 μ-loop pages far-end₀ page₀ far-end page = pages - page
 
-pub turned-spec : {M : Type 1} → statement M
-turned-spec =
+pub advanced-spec : {M : Type 1} → statement M
+advanced-spec =
     tie.close
     (tie.spec
     Inv-loop

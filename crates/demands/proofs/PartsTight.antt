@@ -26,7 +26,7 @@ use Rattle.laptop_laws.proofs.Laws.{step-only}
 use Rattle.owner.specs.Owner.{ownerRefusal, asks}
 use Rattle.gathering.specs.Gathering.{Opening, OpeningIs, Gathering, GatheringIs}
 use Rattle.answers.specs.Answers.{Storing, StoringIs, Marking, MarkingIs}
-use Rattle.publishing.specs.Publishing.{isWhole, Publishes}
+use Rattle.publishing.specs.Publishing.{isWhole, PublishedAs}
 use Rattle.demands.proofs.LaptopTight.{One, OneWith}
 
 -- messages
@@ -117,8 +117,8 @@ hear-mode-only k s other entered entered′ p q = (one-value (p .0) (q .0), one-
 -- publishing: the step, and all that is held
 pub publish-only : (before : Step) (svids modes identity run : List ℕ) (heldSvids heldModes heldIdentity heldRun : Lent (List ℕ))
     (svids′ modes′ identity′ run′ : RefT (List ℕ)) (s other : Step) →
-    Publishes before svids modes identity run heldSvids heldModes heldIdentity heldRun s →
-    Publishes before svids modes identity run (leaving heldSvids svids′) (leaving heldModes modes′) (leaving heldIdentity identity′) (leaving heldRun run′) other →
+    PublishedAs before svids modes identity run heldSvids heldModes heldIdentity heldRun s →
+    PublishedAs before svids modes identity run (leaving heldSvids svids′) (leaving heldModes modes′) (leaving heldIdentity identity′) (leaving heldRun run′) other →
     (s ≡ other) × (left heldSvids ≡ now svids′) × (left heldModes ≡ now modes′) × (left heldIdentity ≡ now identity′) × (left heldRun ≡ now run′)
 publish-only before svids modes identity run heldSvids heldModes heldIdentity heldRun svids′ modes′ identity′ run′ s other p q =
     (one-value (p .0) (q .0), one-value (p .1) (q .1), one-value (p .2) (q .2), one-value (p .3) (q .3), one-value (p .4) (q .4))

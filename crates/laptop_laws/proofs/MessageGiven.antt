@@ -28,7 +28,7 @@ use Rattle.laptop.specs.declared.Size.{Size}
 use Rattle.laptop.specs.declared.Step.{Step}
 use Rattle.laptop.specs.declared.Wait.{Wait}
 use Rattle.laptop.specs.declared.Wait.the-variants.{Nothing, Answer}
-use Rattle.laptop_laws.specs.Given.{Line, _when_, First, ShortRun, readingLines, FitsAwaited, NotAwaited, IsPage, BadPage, VoidingNak, ModesPastTheLast, NoEnd, heardLines}
+use Rattle.laptop_laws.specs.Given.{Line, _when_, First, ShortRun, readingLines, FitsAwaited, NotAwaited, IsPage, BringsBadPage, VoidingNak, ModesPastTheLast, NoEnd, heardLines}
 use Rattle.laptop_laws.proofs.First.{Tells, tells, tells-and, tells-eqb, tells-leb, tells-ltb, Numbered, first-behind}
 use Rattle.laptop_laws.proofs.Leaves.{whole-refusal}
 use Rattle.laptop_laws.proofs.OwnerGiven.{tells-short}
@@ -162,12 +162,12 @@ module _ (l : Laptop) (m : Memory) (x : Message) where
   judged = verdict (gatheredList l (m .svids)) (halves (x .objects))
 
   abbrev Void : Type 0
-  Void = BadPage l m x ⊎ (VoidingNak l (x .head) ⊎ ModesPastTheLast l (x .head))
+  Void = BringsBadPage l m x ⊎ (VoidingNak l (x .head) ⊎ ModesPastTheLast l (x .head))
 
   abbrev answerLines : List Line
   answerLines = 8 when Void ∷ 14 when NoEnd l m x ∷ []
 
-  void-by : (BadPage l m x → ⊥) → (VoidingNak l (x .head) → ⊥) → (ModesPastTheLast l (x .head) → ⊥) → Void → ⊥
+  void-by : (BringsBadPage l m x → ⊥) → (VoidingNak l (x .head) → ⊥) → (ModesPastTheLast l (x .head) → ⊥) → Void → ⊥
   void-by a b c (inl v) = a v
   void-by a b c (inr (inl v)) = b v
   void-by a b c (inr (inr v)) = c v

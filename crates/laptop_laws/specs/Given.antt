@@ -127,8 +127,8 @@ abbrev pub IsPage : Head → Type 0
 IsPage h = (h .command ≡ svidsCommand) × (h .kind ≡ ack)
 
 -- 8: a bad page, by what it is to the gathered list
-abbrev pub BadPage : Laptop → Memory → Message → Type 0
-BadPage l m x = IsPage (x .head) × (verdict (gatheredList l (m .svids)) (halves (x .objects)) ≡ Bad)
+abbrev pub BringsBadPage : Laptop → Memory → Message → Type 0
+BringsBadPage l m x = IsPage (x .head) × (verdict (gatheredList l (m .svids)) (halves (x .objects)) ≡ Bad)
 
 -- 8: a NAK that voids: to SVIDs, unless the list is open and nothing is gathered; to Modes
 abbrev pub VoidingNak : Laptop → Head → Type 0
@@ -149,7 +149,7 @@ NoEnd l m x =
 abbrev pub heardLines : Laptop → Memory → Message → List Line
 heardLines l m x =
     6 when NotAwaited l (x .head) ∷
-    8 when (BadPage l m x ⊎ (VoidingNak l (x .head) ⊎ ModesPastTheLast l (x .head))) ∷
+    8 when (BringsBadPage l m x ⊎ (VoidingNak l (x .head) ⊎ ModesPastTheLast l (x .head))) ∷
     14 when NoEnd l m x ∷ []
 
 -- the lines of each call

@@ -40,7 +40,7 @@ abbrev pub withLaptop : Laptop → Step → Step
 withLaptop l s = record { refusal = s .refusal; length = s .length; told = s .told; laptop = l }
 
 -- what publishing promises: the step, and the held arrays and run with the candidate's
-abbrev pub Publishes : Step → List ℕ → List ℕ → List ℕ → List ℕ → Lent (List ℕ) → Lent (List ℕ) → Lent (List ℕ) → Lent (List ℕ) → Step → Type 0
-Publishes before svids modes identity run heldSvids heldModes heldIdentity heldRun step =
+abbrev pub PublishedAs : Step → List ℕ → List ℕ → List ℕ → List ℕ → Lent (List ℕ) → Lent (List ℕ) → Lent (List ℕ) → Lent (List ℕ) → Step → Type 0
+PublishedAs before svids modes identity run heldSvids heldModes heldIdentity heldRun step =
     (step ≡ withLaptop (published (before .laptop)) before) × (left heldSvids ≡ svids) × (left heldModes ≡ modes) × (left heldIdentity ≡ identity) ×
     (left heldRun ≡ copied (take (before .laptop .gathered .count) modes) run 0 (lent heldRun))

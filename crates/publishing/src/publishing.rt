@@ -2,7 +2,7 @@
 ghost use mathlib.Core.Path.{_≡_};
 ghost use Prim.Native.Nat.{_≤_};
 ghost use lib.ListN.{length, getD, take};
-ghost use Rattle.publishing.specs.Publishing.{isWhole, isMode, copied, copiedTo, Publishes};
+ghost use Rattle.publishing.specs.Publishing.{isWhole, isMode, copied, copiedTo, PublishedAs};
 ghost use Rattle.laptop.specs.State.{published as State·published};
 use laptop::Candidate;
 use laptop::Held;
@@ -97,7 +97,7 @@ pub fn publish(
     held_identity: &mut [u32; 6],
     held_run: &mut [u32],
 ) -> Step
-    ensures { λ r. ⌜ Publishes step (now (svids .entry)) (now (modes .entry)) (now (identity .entry)) (now (run .entry)) «held_svids» «held_modes» «held_identity» «held_run» r ⌝ }
+    ensures { λ r. ⌜ PublishedAs step (now (svids .entry)) (now (modes .entry)) (now (identity .entry)) (now (run .entry)) «held_svids» «held_modes» «held_identity» «held_run» r ⌝ }
 {
     let laptop = step.laptop;
     *held_svids = *svids;

@@ -10,7 +10,7 @@ use messages::Head;
 use messages::ReadAs;
 use messages::Reading;
 use messages::shape;
-use object::object_at;
+pub use object::object_at;
 
 fn head_of(header: u32) -> Head
     ensures { λ r. ⌜ r ≡ headOf header ⌝ }

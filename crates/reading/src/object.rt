@@ -1,6 +1,5 @@
 // An object among bytes: 32 bits, least significant byte first.
 ghost use mathlib.Core.Path.{_≡_};
-ghost use Prim.Native.Nat.{_<_};
 ghost use lib.ListN.{getD};
 ghost use Rattle.messages.specs.Layout.{objectOf, objectsOf};
 
@@ -11,13 +10,12 @@ fn joined(a: u8, b: u8, c: u8, d: u8) -> u32
 }
 
 // Object i, counted from 0; 0 where the bytes end before it does.
-pub(crate) fn object_at(bytes: &[u8], i: usize) -> u32
-    requires { ⌜ i < 7 ⌝ }
+pub fn object_at(bytes: &[u8], i: usize) -> u32
     ensures { λ r. ⌜ r ≡ getD (objectsOf (now (bytes .entry))) i 0 ⌝ }
 {
-    let at = i * 4;
-    if at + 4 <= bytes.len() {
-        return joined(bytes[at], bytes[at + 1], bytes[at + 2], bytes[at + 3]);
+    if bytes.len() / 4 <= i {
+        return 0;
     }
-    0
+    let at = i * 4;
+    joined(bytes[at], bytes[at + 1], bytes[at + 2], bytes[at + 3])
 }

@@ -1,0 +1,97 @@
+-- Which record may follow a walk, by the tests that lead there.
+use mathlib.Core.Path.{_≡_, refl, sym, _∙_, ap}
+use mathlib.Core.Bool.{Bool, true, false, not, _&&_}
+use mathlib.Core.List.{List}
+use Prim.Native.Nat.{ℕ, _<_, _≤_}
+use native.Mathlib.Omega.{arith}
+use lib.Dec.{ltb, eqb}
+use borrow.Author.Tests.{lt-ltb, le-ltb, eq-eqb, ne-eqb, ltb-true}
+use Rattle.laws.proofs.Lines.{and-left, and-right}
+use Rattle.pages.specs.Lists.{mostSvids, isIn}
+use Rattle.laptop.specs.Catalogue.{modesEach}
+use Rattle.records.specs.declared.Record.the-variants.{Identity, Svid, Mode, End}
+use Rattle.judging.specs.Walking.{isBare, mayFollow}
+use Rattle.judging.specs.declared.walk.Walk.{Walk}
+
+and-true : (b : Bool) → (b && true) ≡ b
+and-true true = refl
+and-true false = refl
+
+zero-ltb : (n : ℕ) → n ≡ 0 → ltb 0 n ≡ false
+zero-ltb n e = le-ltb 0 n (omega arith)
+
+some-ltb : (n : ℕ) → (n ≡ 0 → ⊥) → ltb 0 n ≡ true
+some-ltb n some = lt-ltb 0 n (omega arith)
+
+module _ (w : Walk) where
+  pub bare-none : w .count ≡ 0 → isBare w ≡ false
+  unfolding isBare
+  bare-none e = simp (zero-ltb (w .count) e)
+
+  pub bare-some : (w .count ≡ 0 → ⊥) → isBare w ≡ eqb (w .last) 0
+  unfolding isBare
+  bare-some some = simp (some-ltb (w .count) some)
+
+  module _ (svids : List ℕ) where
+    -- an SVID
+    module _ (svid : ℕ) where
+      pub list-first : w .extent ≡ 0 → mayFollow w svids (Svid svid) ≡ false
+      unfolding mayFollow
+      list-first e = simp (zero-ltb (w .extent) e)
+
+      module _ (begun : w .extent ≡ 0 → ⊥) where
+        pub list-bare : isBare w ≡ true → mayFollow w svids (Svid svid) ≡ false
+        unfolding mayFollow
+        list-bare bare = simp (some-ltb (w .extent) begun, bare)
+
+        module _ (closed : isBare w ≡ false) where
+          pub list-zero : svid ≡ 0 → mayFollow w svids (Svid svid) ≡ false
+          unfolding mayFollow
+          list-zero e = simp (some-ltb (w .extent) begun, closed, eq-eqb svid 0 e)
+
+          module _ (some : svid ≡ 0 → ⊥) where
+            pub list-full : mostSvids ≤ w .count → mayFollow w svids (Svid svid) ≡ false
+            unfolding mayFollow
+            list-full full = simp (some-ltb (w .extent) begun, closed, ne-eqb svid 0 some, le-ltb (w .count) mostSvids full)
+
+            pub list-new : w .count < mostSvids → mayFollow w svids (Svid svid) ≡ not (isIn svid svids)
+            unfolding mayFollow
+            list-new room =
+                simp (some-ltb (w .extent) begun, closed, ne-eqb svid 0 some, lt-ltb (w .count) mostSvids room) (and-true (not (isIn svid svids)))
+
+      -- where it may follow
+      pub listed-room : mayFollow w svids (Svid svid) ≡ true → w .count < mostSvids
+      unfolding mayFollow
+      listed-room e =
+          let a = ltb 0 (w .extent) in
+          let b = not (isBare w) in
+          let z = not (eqb svid 0) in
+          let r = ltb (w .count) mostSvids in
+          let n = not (isIn svid svids) && true in
+          ltb-true (w .count) mostSvids (and-left r n (and-right z (r && n) (and-right b (z && (r && n)) (and-right a (b && (z && (r && n))) e))))
+
+    -- a mode
+    module _ (mode : ℕ) where
+      pub add-none : w .count ≡ 0 → mayFollow w svids (Mode mode) ≡ false
+      unfolding mayFollow
+      add-none e = simp (zero-ltb (w .count) e)
+
+      pub add-some : (w .count ≡ 0 → ⊥) → mayFollow w svids (Mode mode) ≡ ltb (w .last) modesEach
+      unfolding mayFollow
+      add-some some = simp (some-ltb (w .count) some) (and-true (ltb (w .last) modesEach))
+
+      pub added-under : mayFollow w svids (Mode mode) ≡ true → (0 < w .count) × (w .last < modesEach)
+      unfolding mayFollow
+      added-under e =
+          let a = ltb 0 (w .count) in
+          let b = ltb (w .last) modesEach in
+          (ltb-true 0 (w .count) (and-left a (b && true) e), ltb-true (w .last) modesEach (and-left b true (and-right a (b && true) e)))
+
+    -- the end
+    pub end-first : w .extent ≡ 0 → mayFollow w svids End ≡ false
+    unfolding mayFollow
+    end-first e = simp (zero-ltb (w .extent) e)
+
+    pub end-closed : (w .extent ≡ 0 → ⊥) → mayFollow w svids End ≡ not (isBare w)
+    unfolding mayFollow
+    end-closed begun = simp (some-ltb (w .extent) begun) (and-true (not (isBare w)))

@@ -1,0 +1,7 @@
+-- Laws on the walk over a catalogue's records, a file for each topic.
+pub mod Cases
+pub mod Entries
+pub mod Following
+pub mod Noted
+pub mod Underway
+pub mod Walks

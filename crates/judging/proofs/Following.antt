@@ -60,6 +60,9 @@ module _ (w : Walk) where
                 simp (some-ltb (w .extent) begun, closed, ne-eqb svid 0 some, lt-ltb (w .count) mostSvids room) (and-true (not (isIn svid svids)))
 
       -- where it may follow
+      pub listed-begun : mayFollow w svids (Svid svid) ≡ true → w .extent ≡ 0 → ⊥
+      listed-begun e none = let z : _≡_ {A = Bool} true false = sym e ∙ list-first none in let y : _≡_ {A = ℕ} 0 1 = cc in omega arith
+
       pub listed-room : mayFollow w svids (Svid svid) ≡ true → w .count < mostSvids
       unfolding mayFollow
       listed-room e =

@@ -1,0 +1,1 @@
+// What reading and writing a catalogue come to: laws alone.

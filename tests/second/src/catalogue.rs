@@ -1,23 +1,18 @@
 //! A catalogue (01, "The laptop end"): what is known of it beside its run of mode words, and its
 //! bytes (01, "Catalogue bytes and the watcher program").
 
-use crate::messages::{MOST_AFTER_HEADER, OBJECT_BYTES};
+use crate::messages::MOST_AFTER_HEADER;
 use crate::pages::MOST_SVIDS;
+use crate::record::{Record, MODE_BYTES, MOST_IDENTITY_BYTES, SVID_BYTES};
 use crate::refusals::{NOT_HELD, SHORT_BUFFER};
 
 /// The words of a run that one SVID has.
 pub const MOST_MODES: usize = MOST_AFTER_HEADER;
 pub const RUN_WORDS: usize = MOST_SVIDS * MOST_MODES;
-pub const MOST_CATALOGUE_BYTES: usize = 1
-    + MOST_AFTER_HEADER * OBJECT_BYTES
-    + MOST_SVIDS * (1 + size_of::<u16>() + MOST_MODES * (1 + OBJECT_BYTES))
-    + 1;
-
-/// The least identity objects of a catalogue: their number is the identity's kind.
-const LEAST_OBJECTS: usize = 3;
-const SVID_KIND: u8 = 0x10;
-const MODE_KIND: u8 = 0x20;
-const END_KIND: u8 = 0x00;
+pub const MOST_CATALOGUE_BYTES: usize =
+    MOST_IDENTITY_BYTES + MOST_SVIDS * (SVID_BYTES + MOST_MODES * MODE_BYTES) + 1;
+/// The least identity objects of a catalogue.
+pub const LEAST_OBJECTS: usize = 3;
 
 #[derive(Clone, Debug, PartialEq, Eq)]
 pub struct Catalogue {
@@ -83,20 +78,13 @@ impl Catalogue {
     }
 
     fn bytes(&self, run: &[u32]) -> Vec<u8> {
-        let mut bytes = vec![self.identity.len() as u8];
-        for object in &self.identity {
-            bytes.extend(object.to_le_bytes());
-        }
+        let mut records = vec![Record::Identity(self.identity.clone())];
         let modes = run.chunks(MOST_MODES).zip(&self.mode_counts);
-        for (svid, (words, &count)) in self.svids.iter().zip(modes) {
-            bytes.push(SVID_KIND);
-            bytes.extend(svid.to_le_bytes());
-            for mode in &words[..count] {
-                bytes.push(MODE_KIND);
-                bytes.extend(mode.to_le_bytes());
-            }
+        for (&svid, (words, &count)) in self.svids.iter().zip(modes) {
+            records.push(Record::Svid(svid));
+            records.extend(words[..count].iter().map(|&mode| Record::Mode(mode)));
         }
-        bytes.push(END_KIND);
-        bytes
+        records.push(Record::End);
+        records.iter().flat_map(Record::bytes).collect()
     }
 }

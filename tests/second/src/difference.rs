@@ -1,7 +1,7 @@
 //! The first line in which two outputs of a program differ.
 
 /// How the columns are called by which a line names its place.
-const PLACES: [&str; 3] = ["stream", "event", "vector"];
+const PLACES: [&str; 4] = ["stream", "event", "vector", "file"];
 const NO_LINE: &str = "(no line)";
 
 /// Tells the place and both lines, if the outputs differ. The names say whose each is.

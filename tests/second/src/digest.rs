@@ -15,3 +15,9 @@ pub fn of_words(words: &[u32]) -> u32 {
     let bytes: Vec<u8> = words.iter().flat_map(|word| word.to_le_bytes()).collect();
     of_bytes(&bytes)
 }
+
+/// Of the SVIDs' bytes, low byte first.
+pub fn of_svids(svids: &[u16]) -> u32 {
+    let bytes: Vec<u8> = svids.iter().flat_map(|svid| svid.to_le_bytes()).collect();
+    of_bytes(&bytes)
+}

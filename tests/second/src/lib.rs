@@ -1,8 +1,10 @@
-//! The second implementation, written from document 01 alone: one module a topic.
+//! The second implementation, written from documents 01 and 02 alone: one module a topic.
 
 pub mod call;
 pub mod cases;
 pub mod catalogue;
+pub mod catalogue_file;
+pub mod catalogue_files;
 mod counts;
 pub mod difference;
 pub mod digest;
@@ -18,6 +20,7 @@ pub mod messages;
 pub mod pages;
 pub mod random;
 pub mod reached;
+pub mod record;
 pub mod refusals;
 pub mod steps;
 pub mod stream;

@@ -1,4 +1,4 @@
-//! The refusal numbers of document 01.
+//! The refusal numbers of documents 01 and 02.
 
 pub const ACCEPTED: u8 = 0;
 pub const NOT_WHOLE_OBJECTS: u8 = 1;
@@ -17,3 +17,7 @@ pub const SHORT_RUN: u8 = SHORT_BUFFER;
 pub const NOT_HELD: u8 = 12;
 pub const BLOCKED: u8 = 13;
 pub const NO_END: u8 = 14;
+pub const UNKNOWN_KIND: u8 = 15;
+pub const CUT_RECORD: u8 = 16;
+pub const OUT_OF_ORDER: u8 = 17;
+pub const BYTES_AFTER_END: u8 = 18;

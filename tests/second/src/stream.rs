@@ -83,8 +83,8 @@ pub fn take_bytes<const COUNT: usize>(input: &mut impl Read) -> Result<[u8; COUN
     Ok(bytes)
 }
 
-pub fn take_run(input: &mut impl Read, count: u8) -> Result<Vec<u8>, Stop> {
-    let mut bytes = vec![0; usize::from(count)];
+pub fn take_run(input: &mut impl Read, count: impl Into<usize>) -> Result<Vec<u8>, Stop> {
+    let mut bytes = vec![0; count.into()];
     input.read_exact(&mut bytes)?;
     Ok(bytes)
 }

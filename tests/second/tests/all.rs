@@ -3,6 +3,8 @@
 mod bench;
 mod cases;
 mod catalogue;
+mod catalogue_file;
+mod catalogue_files;
 mod demand_3;
 mod difference;
 mod digest;

@@ -8,7 +8,8 @@
  * behind it the number of its elements (not of bytes), which has 64 bits on every chip, also on a 32-bit one. No pointer may be null, also where the
  * number is 0. Each is aligned for its type. What a call may change overlaps nothing else that is lent to it.
  *
- * Results. A call gives 0 if it is accepted, else a refusal number; then nothing is to be sent or told.
+ * Results. A call gives 0 if it is accepted, else a refusal number; then nothing is to be sent or told. Those that read a catalogue's bytes give an offset
+ * beside the number: see CONTROLLER_REFUSAL and CONTROLLER_OFFSET.
  * - On acceptance it writes `length`, or all seven numbers of `handed`, and the new state. Bytes of `out` past the message stay.
  * - On a refusal it changes no lent number: no state, no array, not `out`, `length` or `handed`. The laptop's state alone is written, if the refusal
  *   changes it: 8 and 14 drop the candidate and end the wait, and a page so refused stays counted; 6 drops the candidate for a late page.
@@ -38,6 +39,7 @@ typedef uint64_t controller_count;
 #define CONTROLLER_DOCK_STATE 7         /* numbers of the dock's state */
 #define CONTROLLER_LAPTOP_STATE 12      /* numbers of the laptop's state */
 #define CONTROLLER_HANDED 7             /* numbers that a laptop's call hands over */
+#define CONTROLLER_SIZES 3              /* numbers that catalogue_read hands over */
 
 /* Refusal numbers. For a message the order is 1 to 5, then 6, 8, 14; 11 for a short run comes before all others, 11 for a short buffer after them. */
 enum controller_refusal {
@@ -55,7 +57,11 @@ enum controller_refusal {
     CONTROLLER_SHORT = 11,            /* `out` is too short for the message or catalogue, or a run has under 432 words */
     CONTROLLER_NOT_HELD = 12,         /* no held catalogue, or the SVID or mode is not in it */
     CONTROLLER_BLOCKED = 13,          /* by a candidate, by an entered mode, or by one that is not entered */
-    CONTROLLER_NO_END = 14            /* two hundred pages without an end */
+    CONTROLLER_NO_END = 14,           /* two hundred pages without an end */
+    CONTROLLER_UNKNOWN_KIND = 15,     /* of a catalogue's bytes: a record's kind is unknown */
+    CONTROLLER_CUT_RECORD = 16,       /* they stop within a record, or before the end record */
+    CONTROLLER_OUT_OF_ORDER = 17,     /* a record in the wrong place, again, or past a limit */
+    CONTROLLER_BYTES_AFTER_END = 18   /* bytes behind the end record */
 };
 
 /* Commands, as both states and `handed` have them. */
@@ -217,6 +223,27 @@ uint8_t laptop_protocol_error(uint16_t state[CONTROLLER_LAPTOP_STATE], uint32_t 
 uint8_t catalogue_write(const uint16_t state[CONTROLLER_LAPTOP_STATE], const uint16_t held_svids[CONTROLLER_SVIDS],
                         const uint8_t held_modes[CONTROLLER_SVIDS], const uint32_t held_identity[CONTROLLER_IDENTITY_OBJECTS], const uint32_t *held_run,
                         controller_count held_run_count, uint8_t *out, controller_count out_count, uint16_t *length);
+
+/* The results of the two calls below: the refusal number in the low eight bits, and an offset into `bytes` above them. With 15 to 18 it is where the first
+   record at fault begins (the first byte behind the end with 18), with 11 and 12 it is 0. */
+#define CONTROLLER_REFUSAL(result) ((uint8_t)((result) & 0xFF))
+#define CONTROLLER_OFFSET(result) ((result) >> 8)
+
+/* Places in `sizes`. */
+enum controller_sizes {
+    CONTROLLER_SIZES_OBJECTS = 0, /* identity objects */
+    CONTROLLER_SIZES_COUNT = 1,   /* SVIDs */
+    CONTROLLER_SIZES_MODES = 2    /* modes in all */
+};
+
+/* Reads a catalogue's bytes. On acceptance `sizes` and the three arrays are written, with zeros behind what the catalogue has, and of the run the mode
+   words; the offset is the number of bytes. A refusal changes nothing that is lent: 11 for a run under 432 words, then 15 to 18. */
+uint32_t catalogue_read(const uint8_t *bytes, controller_count bytes_count, uint16_t svids[CONTROLLER_SVIDS], uint8_t modes[CONTROLLER_SVIDS],
+                        uint32_t identity[CONTROLLER_IDENTITY_OBJECTS], uint32_t *run, controller_count run_count, uint16_t sizes[CONTROLLER_SIZES]);
+
+/* Finds the mode records of one SVID in a catalogue's bytes: they begin at the offset, and are `length` bytes. Refused 15 to 18, then 12 if the SVID is not
+   there. */
+uint32_t catalogue_stretch(const uint8_t *bytes, controller_count bytes_count, uint16_t svid, uint8_t *length);
 
 #ifdef __cplusplus
 }

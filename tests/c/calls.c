@@ -28,8 +28,8 @@ static unsigned load(void) {
 
 static unsigned ask(void) {
     struct dock *d = &lent.dock;
-    uint8_t bytes[4 * MOST_WORDS];
-    controller_count count = take_bytes(bytes);
+    uint8_t bytes[MOST_BYTES];
+    controller_count count = take_bytes(1, bytes);
     return dock_message(d->state, d->identity, d->svids, bytes, count, d->out, room, &d->length);
 }
 
@@ -53,8 +53,8 @@ static unsigned fresh_laptop(void) {
 
 static unsigned hear(void) {
     struct laptop *l = &lent.laptop;
-    uint8_t bytes[4 * MOST_WORDS];
-    controller_count count = take_bytes(bytes);
+    uint8_t bytes[MOST_BYTES];
+    controller_count count = take_bytes(1, bytes);
     return laptop_message(l->state, bytes, count, l->svids, l->modes, l->identity, l->run, run_words, l->held_svids, l->held_modes, l->held_identity,
                           l->held_run, held_run_words, l->entered, l->handed);
 }
@@ -97,6 +97,20 @@ static unsigned write_catalogue(void) {
     struct laptop *l = &lent.laptop;
     return catalogue_write(l->state, l->held_svids, l->held_modes, l->held_identity, l->held_run, held_run_words, l->catalogue,
                            part_of(1, CONTROLLER_CATALOGUE_BYTES), &l->catalogue_length);
+}
+
+/* Reading a catalogue's bytes. */
+
+static unsigned read_catalogue(void) {
+    struct reader *r = &lent.reader;
+    controller_count count = take_bytes(2, r->bytes);
+    return catalogue_read(r->bytes, count, r->svids, r->modes, r->identity, r->run, part_of(1, CONTROLLER_RUN_WORDS), r->sizes);
+}
+
+static unsigned find_stretch(void) {
+    struct reader *r = &lent.reader;
+    controller_count count = take_bytes(2, r->bytes);
+    return catalogue_stretch(r->bytes, count, hex(1), &r->length);
 }
 
 /* What the steps set between calls. */
@@ -157,6 +171,8 @@ static const struct step STEPS[] = {
     {"laptop_exit_timer", exit_timer, show_laptop},
     {"laptop_protocol_error", protocol_error, show_laptop},
     {"catalogue_write", write_catalogue, show_catalogue},
+    {"catalogue_read", read_catalogue, show_reading},
+    {"catalogue_stretch", find_stretch, show_stretch},
     {"room", set_room, show_set},
     {"runs", set_runs, show_set},
     {"stray", stray, show_set},

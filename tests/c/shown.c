@@ -63,19 +63,30 @@ static const struct part {
     PART("out", laptop, out),
     PART("catalogue", laptop, catalogue),
     PART("catalogue_length", laptop, catalogue_length),
+    PART("read_svids", reader, svids),
+    PART("read_modes", reader, modes),
+    PART("read_identity", reader, identity),
+    PART("read_run", reader, run),
+    PART("sizes", reader, sizes),
+    PART("stretch_length", reader, length),
 #undef PART
 };
 
-/* The number of a refusal, and the names of what it changed. */
-static void print_refusal(unsigned refusal) {
+/* The names of what a refusal changed. */
+static void print_changes(void) {
     int changes = 0;
-    printf("refused %u, changed", refusal);
+    printf(", changed");
     for (size_t i = 0; i < sizeof PARTS / sizeof *PARTS; i++) {
         if (memcmp((const char *)&lent + PARTS[i].at, (const char *)&before + PARTS[i].at, PARTS[i].size) == 0) continue;
         printf(" %s", PARTS[i].name);
         changes++;
     }
     if (changes == 0) printf(" nothing");
+}
+
+static void print_refusal(unsigned refusal) {
+    printf("refused %u", refusal);
+    print_changes();
 }
 
 /* The objects to be sent; the bytes past them have to be as they were. */
@@ -122,6 +133,49 @@ void show_catalogue(unsigned refusal) {
     for (int i = 0; i < lent.laptop.catalogue_length; i++) printf("%02X", lent.laptop.catalogue[i]);
     for (int i = lent.laptop.catalogue_length; i < CONTROLLER_CATALOGUE_BYTES; i++)
         if (lent.laptop.catalogue[i] != UNWRITTEN) printf(", writes byte %d of the buffer", i);
+}
+
+/* The first numbers of an array; those behind them have to be 0. */
+static void print_numbers(const char *name, int digits, const uint32_t *numbers, int count, int all) {
+    printf(", %s", name);
+    if (count == 0) printf(" nothing");
+    for (int i = 0; i < all; i++)
+        if (i < count) printf(" %0*X", digits, (unsigned)numbers[i]);
+        else if (numbers[i] != 0) printf(", %s %d is %0*X", name, i, digits, (unsigned)numbers[i]);
+}
+
+/* Whether a call that reads was accepted, and its offset. */
+static int print_read(unsigned result) {
+    unsigned refusal = CONTROLLER_REFUSAL(result), offset = CONTROLLER_OFFSET(result);
+    if (refusal == CONTROLLER_ACCEPTED) {
+        printf("accepted, offset %u", offset);
+        return 1;
+    }
+    printf("refused %u, offset %u", refusal, offset);
+    print_changes();
+    return 0;
+}
+
+void show_reading(unsigned result) {
+    const struct reader *r = &lent.reader;
+    uint32_t svids[CONTROLLER_SVIDS], modes[CONTROLLER_SVIDS];
+    if (!print_read(result)) return;
+    for (int i = 0; i < CONTROLLER_SVIDS; i++) {
+        svids[i] = r->svids[i];
+        modes[i] = r->modes[i];
+    }
+    printf(", sizes %u %u %u", r->sizes[CONTROLLER_SIZES_OBJECTS], r->sizes[CONTROLLER_SIZES_COUNT], r->sizes[CONTROLLER_SIZES_MODES]);
+    print_numbers("identity", 8, r->identity, r->sizes[CONTROLLER_SIZES_OBJECTS], CONTROLLER_IDENTITY_OBJECTS);
+    print_numbers("svids", 4, svids, r->sizes[CONTROLLER_SIZES_COUNT], CONTROLLER_SVIDS);
+    print_numbers("modes", 1, modes, r->sizes[CONTROLLER_SIZES_COUNT], CONTROLLER_SVIDS);
+    print_written("run", r->run, before.reader.run);
+}
+
+void show_stretch(unsigned result) {
+    const struct reader *r = &lent.reader;
+    if (!print_read(result)) return;
+    printf(", length %u, bytes ", r->length);
+    for (int i = 0; i < r->length; i++) printf("%02X", r->bytes[CONTROLLER_OFFSET(result) + i]);
 }
 
 void show_fresh_dock(unsigned refusal) {

@@ -10,7 +10,7 @@
 #include <stdlib.h>
 #include <string.h>
 
-#define MOST_LINE 1024
+#define MOST_LINE 8192
 
 struct lent lent, before;
 
@@ -26,6 +26,7 @@ static void do_step(const char *text, int is_printed) {
     memset(lent.laptop.out, UNWRITTEN, sizeof lent.laptop.out);
     memset(lent.laptop.catalogue, UNWRITTEN, sizeof lent.laptop.catalogue);
     memset(&lent.laptop.catalogue_length, UNWRITTEN, sizeof lent.laptop.catalogue_length);
+    memset(&lent.reader, UNWRITTEN, sizeof lent.reader);
     before = lent;
     unsigned result = step->make();
     if (!is_printed) return;

@@ -33,9 +33,9 @@ controller_count part_of(size_t i, unsigned long whole) {
     return number(i, 10);
 }
 
-controller_count take_bytes(uint8_t *bytes) {
+controller_count take_bytes(size_t from, uint8_t *bytes) {
     controller_count count = 0;
-    for (size_t i = 1; i < word_count; i++) {
+    for (size_t i = from; i < word_count; i++) {
         unsigned long value = number(i, 16);
         size_t digits = strlen(words[i]);
         if (digits > 8 || digits % 2 != 0) fail("no bytes of an object", words[i]);

@@ -6,7 +6,8 @@
 
 #include <stddef.h>
 
-#define MOST_WORDS 128
+#define MOST_WORDS 1024
+#define MOST_BYTES (4 * MOST_WORDS)
 
 void fail(const char *what, const char *where);
 
@@ -21,8 +22,8 @@ uint8_t decimal(size_t i);
 /* So much of a buffer or run as a call is to be lent. */
 controller_count part_of(size_t i, unsigned long whole);
 
-/* The words behind the step's name as bytes: two digits a byte, the low byte of a word first. */
-controller_count take_bytes(uint8_t *bytes);
+/* The words from a place to the end as bytes: two digits a byte, the low byte of a word first. */
+controller_count take_bytes(size_t from, uint8_t *bytes);
 
 /* Hexadecimal numbers from a place up to a stroke or the end; SVIDs from a place to the end. */
 controller_count take_objects(size_t from, uint32_t *objects);

@@ -1,6 +1,6 @@
 //! The laptop's calls, and the catalogue's bytes.
 
-use super::{refused, sends, written_past, Line, Out, Words, MOST_ROOM, UNWRITTEN};
+use super::{refused, sends, written, written_past, Line, Out, Words, MOST_ROOM, UNWRITTEN};
 use crate::call::Call;
 use crate::catalogue::{Catalogue, MOST_CATALOGUE_BYTES, RUN_WORDS};
 use crate::laptop::{Accepted, Answer, Candidate, Laptop, Reason, Runs, Told};
@@ -187,13 +187,4 @@ fn handed(accepted: &Accepted) -> [u32; 7] {
 fn sizes(gathered: &Catalogue) -> String {
     let (objects, count) = (gathered.identity.len(), gathered.svids.len());
     format!("{objects} {count} {}", gathered.mode_counts.len())
-}
-
-/// The words of a run that the call wrote.
-fn written(name: &str, run: &[u32], before: &[u32]) -> String {
-    (0..)
-        .zip(run.iter().zip(before))
-        .filter(|(_, (word, old))| word != old)
-        .map(|(place, (word, _))| format!(", {name} {place} is {word:08X}"))
-        .collect()
 }

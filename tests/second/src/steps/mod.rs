@@ -3,6 +3,7 @@
 
 mod dock_end;
 mod laptop_end;
+mod reader;
 mod words;
 
 use crate::messages::{MOST_OBJECTS, OBJECT_BYTES};
@@ -40,6 +41,8 @@ impl Ends {
             }
             // Numbers of the library that count as those that stood there.
             "stray" => Ok("set".to_string()),
+            "catalogue_read" => reader::read(words),
+            "catalogue_stretch" => reader::find_stretch(words),
             name if name.starts_with("dock_") => self.dock.take(name, words, self.room),
             name => self.laptop.take(name, words, self.room),
         }
@@ -78,13 +81,17 @@ fn repeat(ends: &mut Ends, steps: &[String], times: &str) -> Result<(), String> 
 
 /// The number of a refusal, and the names of what it changed.
 fn refused(refusal: u8, parts: &[(&str, bool)]) -> String {
+    format!("refused {refusal}, {}", changed(parts))
+}
+
+fn changed(parts: &[(&str, bool)]) -> String {
     let changed = parts.iter().filter(|(_, is_changed)| *is_changed);
     let names: Vec<&str> = changed.map(|&(name, _)| name).collect();
     let names = match &names[..] {
         [] => "nothing".to_string(),
         names => names.join(" "),
     };
-    format!("refused {refusal}, changed {names}")
+    format!("changed {names}")
 }
 
 /// The objects to be sent, and any byte past them that is not as it was.
@@ -107,5 +114,14 @@ fn written_past(past: &[u8], length: usize) -> String {
         .zip(past)
         .filter(|(_, &byte)| byte != UNWRITTEN)
         .map(|(place, _)| format!(", writes byte {place} of the buffer"))
+        .collect()
+}
+
+/// The words of a run that the call wrote.
+fn written(name: &str, run: &[u32], before: &[u32]) -> String {
+    (0..)
+        .zip(run.iter().zip(before))
+        .filter(|(_, (word, old))| word != old)
+        .map(|(place, (word, _))| format!(", {name} {place} is {word:08X}"))
         .collect()
 }

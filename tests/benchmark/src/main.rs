@@ -2,8 +2,10 @@
 //! answers, then in speed.
 
 mod plain;
+mod plain_reader;
 mod proved;
 mod reading;
+mod reading_back;
 mod rounds;
 mod taking;
 mod watching;
@@ -11,5 +13,6 @@ mod watching;
 fn main() {
     reading::measure();
     taking::measure();
+    reading_back::measure();
     watching::measure();
 }

@@ -52,6 +52,11 @@ fn other_headings_name_what_they_count() {
         vectors.as_deref(),
         Some("vector 3, line 2\n    a: 3 read 1\n    b: (no line)")
     );
+    let files = first_difference(("a", "file answer\n7 record 15\n"), ("b", "file answer\n"));
+    assert_eq!(
+        files.as_deref(),
+        Some("file 7, line 2\n    a: 7 record 15\n    b: (no line)")
+    );
     let cases = first_difference(("a", "case 1: yes\n"), ("b", "case 1: no\n"));
     assert_eq!(
         cases.as_deref(),

@@ -1,6 +1,6 @@
 //! The digest of the lines, held against published values of FNV-1a.
 
-use second::digest::{of_bytes, of_words};
+use second::digest::{of_bytes, of_svids, of_words};
 
 #[test]
 fn published_values() {
@@ -10,7 +10,9 @@ fn published_values() {
 }
 
 #[test]
-fn words_are_taken_low_byte_first() {
+fn words_and_svids_are_taken_low_byte_first() {
     let words = [u32::from_le_bytes(*b"foob"), u32::from_le_bytes(*b"arch")];
     assert_eq!(of_words(&words), of_bytes(b"foobarch"));
+    let svids = [u16::from_le_bytes(*b"fo"), u16::from_le_bytes(*b"ob")];
+    assert_eq!(of_svids(&svids), of_bytes(b"foob"));
 }

@@ -26,6 +26,11 @@ pub const CASE_L: [u8; 22] = [
     0x04, 0, 0, 0,
 ];
 
+/// Where the record of its SVID begins, that of its mode, and its end.
+const CASE_L_SVID: usize = 13;
+const CASE_L_MODE: usize = 16;
+const CASE_L_END: usize = 21;
+
 struct Generator {
     random: Random,
     files: Vec<File>,

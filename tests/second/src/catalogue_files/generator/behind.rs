@@ -1,9 +1,10 @@
 //! Sound files with bytes behind the end: of every sort, since none of them is read.
 
 use super::{bytes_of, Generator, CASE_L};
+use crate::catalogue::LEAST_OBJECTS;
 use crate::catalogue_files::file::MOST_FILE_BYTES;
 use crate::catalogue_files::{Asked, File};
-use crate::record::{Record, END_KIND, MODE_KIND, SVID_KIND};
+use crate::record::{Record, END_KIND, LEAST_IDENTITY_KIND, MODE_KIND, SVID_KIND};
 
 const ROOM: usize = MOST_FILE_BYTES as usize;
 /// Kinds that are unknown.
@@ -36,10 +37,10 @@ impl Generator {
             vec![END_KIND; FEW_ZEROS],
             Record::Mode(self.random.object()).bytes(),
             Record::Svid(self.random.svid_but_zero()).bytes(),
-            Record::Identity(self.random.objects(3)).bytes(),
+            Record::Identity(self.random.objects(LEAST_OBJECTS)).bytes(),
             vec![MODE_KIND, 1],
             vec![SVID_KIND],
-            vec![3],
+            vec![LEAST_IDENTITY_KIND],
             drawn,
         ];
         tails.extend(UNKNOWN.map(|kind| vec![kind]));

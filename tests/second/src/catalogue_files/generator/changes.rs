@@ -63,8 +63,7 @@ impl Generator {
     fn drawn_places(&mut self, bytes: &[u8], count: usize) {
         for _ in 0..count {
             let place = self.random.below(bytes.len());
-            let drawn = self.random.byte();
-            let value = self.random.one_of(&[drawn, 0x00, 0x10, 0x20]);
+            let value = self.drawn_value();
             self.changed(bytes, place, value);
         }
     }

@@ -2,7 +2,7 @@
 
 use super::{bytes_of, Generator};
 use crate::catalogue::LEAST_OBJECTS;
-use crate::record::Record;
+use crate::record::{Record, END_KIND, MODE_KIND, SVID_KIND};
 
 /// The known kinds, those of short records twice.
 const KINDS: [u8; 10] = [0x00, 0x00, 0x03, 0x04, 0x05, 0x06, 0x10, 0x10, 0x20, 0x20];
@@ -28,6 +28,12 @@ impl Generator {
         (0..count).map(|_| self.random.byte()).collect()
     }
 
+    /// Often a kind.
+    pub(super) fn drawn_value(&mut self) -> u8 {
+        let drawn = self.random.byte();
+        self.random.one_of(&[drawn, END_KIND, SVID_KIND, MODE_KIND])
+    }
+
     fn drawn_kinds(&mut self) -> Vec<u8> {
         let length = self.random.below(MOST_DRAWN + 1);
         (0..length).map(|_| self.random.one_of(&KINDS)).collect()
@@ -38,8 +44,7 @@ impl Generator {
         let mut bytes = bytes_of(&self.drawn_sound(svids));
         for _ in 0..=self.random.below(MOST_DAMAGES) {
             let place = self.random.below(bytes.len());
-            let drawn = self.random.byte();
-            let value = self.random.one_of(&[drawn, 0x00, 0x10, 0x20]);
+            let value = self.drawn_value();
             match self.random.below(4) {
                 0 => bytes.insert(place, value),
                 1 => bytes[place..].rotate_left(1),

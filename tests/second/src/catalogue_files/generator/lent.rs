@@ -1,7 +1,8 @@
 //! Runs of every sort of length, with sound files, faults and no bytes: 11 comes first.
 
-use super::{bytes_of, Generator, CASE_L, ENOUGH_WORDS};
+use super::{bytes_of, Generator, CASE_L, CASE_L_END, CASE_L_MODE, CASE_L_SVID, ENOUGH_WORDS};
 use crate::catalogue_files::file::WHOLE_RUN;
+use crate::record::SVID_KIND;
 
 const WORDS: [u16; 9] = [
     0,
@@ -18,9 +19,9 @@ const WORDS: [u16; 9] = [
 impl Generator {
     pub(super) fn lent(&mut self) {
         let mut unknown = CASE_L.to_vec();
-        unknown[13] = 0x11;
-        let cut = CASE_L[..21].to_vec();
-        let out_of_order = [&CASE_L[..16], &CASE_L[13..]].concat();
+        unknown[CASE_L_SVID] = SVID_KIND + 1;
+        let cut = CASE_L[..CASE_L_END].to_vec();
+        let out_of_order = [&CASE_L[..CASE_L_MODE], &CASE_L[CASE_L_SVID..]].concat();
         let more = [&CASE_L[..], &CASE_L].concat();
         let lists = [self.drawn_sound(0), self.drawn_sound(13), self.longest()];
         let sound = lists.map(|records| bytes_of(&records));

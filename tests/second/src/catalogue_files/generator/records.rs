@@ -4,7 +4,7 @@ use super::{bytes_of, Generator, CASE_L};
 use crate::catalogue_files::file::MOST_FILE_BYTES;
 use crate::catalogue_files::{Asked, File};
 use crate::messages::MOST_AFTER_HEADER;
-use crate::record::{body_length, END_KIND};
+use crate::record::{body_length, END_KIND, MODE_BYTES, MOST_IDENTITY_BYTES, SVID_BYTES};
 
 const DAMAGED: usize = 200;
 const MOST_FRONT: usize = 4;
@@ -70,7 +70,12 @@ impl Generator {
     fn records_of_the_longest(&mut self) {
         let mut bytes = bytes_of(&self.longest());
         let last = bytes.len() as u16 - 1;
-        for offset in [0, 1, 25, 28, last - 5, last, last + 1, last + 2] {
+        let first_svid = MOST_IDENTITY_BYTES as u16;
+        let first_mode = first_svid + SVID_BYTES as u16;
+        let last_mode = last - MODE_BYTES as u16;
+        let past = last + 1..=last + 2;
+        let offsets = [0, 1, first_svid, first_mode, last_mode, last];
+        for offset in offsets.into_iter().chain(past) {
             self.record(offset, bytes.clone());
         }
         bytes.resize(usize::from(MOST_FILE_BYTES), END_KIND);

@@ -48,7 +48,7 @@ module _ (svids modes run : List ℕ) (i : ℕ) where
   entries-end h = ap (λ (l : List ℕ). entriesBytes (entriesFrom i l modes run)) (drop-of-length-le svids h)
 
 -- lengths
-length-modes : (modes : List ℕ) → length (modesBytes modes) ≡ length modes * 5
+pub length-modes : (modes : List ℕ) → length (modesBytes modes) ≡ length modes * 5
 unfolding modesBytes modeBytes bytesOfObject
 length-modes [] = refl
 length-modes (mode ∷ modes) = omega (arith, length-modes modes)

@@ -1,4 +1,20 @@
 -- Laws on reading and writing a catalogue, a file for each topic.
+pub mod Accepted
+pub mod Beginnings
+pub mod Behind
+pub mod Below
+pub mod Bounds
+pub mod Front
+pub mod Given
+pub mod Known
+pub mod Limits
+pub mod Parts
 pub mod Passing
+pub mod ReadWrite
+pub mod Reading
+pub mod Sized
+pub mod Sizes
+pub mod Steps
 pub mod Turns
+pub mod Words
 pub mod WriteRead

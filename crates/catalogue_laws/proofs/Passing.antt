@@ -21,7 +21,8 @@ use Rattle.records.proofs.Laws.Told.{identity, svid, mode, end}
 use Rattle.records.proofs.Bodies.{identity-bounds}
 use Rattle.judging.specs.Walking.{svidsOf, walkOf, isEnd, mayFollow, withMode, added}
 use Rattle.judging.proofs.Entries.{more, mode-behind, Split, split}
-use Rattle.judging.proofs.Following.{listed-begun, added-under}
+use Rattle.judging.proofs.Following.{listed-as, added-under}
+use Rattle.catalogue_laws.proofs.Below.{take-below}
 
 -- the identity's bytes, none before it, and those of the entries
 abbrev identityBytes : List ℕ → List ℕ
@@ -106,16 +107,10 @@ objects-take (suc k) (w ∷ x ∷ []) = refl
 objects-take (suc k) (w ∷ x ∷ y ∷ []) = refl
 objects-take (suc k) (w ∷ x ∷ y ∷ z ∷ rest) = ap (λ (l : List ℕ). objectOf w x y z ∷ l) (objects-take k rest)
 
-take-below : (n : ℕ) (l : List ℕ) → Below 256 l → Below 256 (take n l)
-take-below zero l b k = omega arith
-take-below (suc n) [] b k = b k
-take-below (suc n) (x ∷ l) b zero = b 0
-take-below (suc n) (x ∷ l) b (suc k) = take-below n l (λ j. b (suc j)) k
-
 identity-record : (k : ℕ) (rest : List ℕ) → Below 256 rest → k * 4 ≤ length rest → bytesOf (take k (objectsOf rest)) ≡ take (k * 4) rest
 identity-record k rest b there =
     let size : length (take (k * 4) rest) ≡ k * 4 = length-take-le (k * 4) rest there in
-    let below : Below 256 (take (k * 4) rest) = take-below (k * 4) rest b in
+    let below : Below 256 (take (k * 4) rest) = take-below 256 (k * 4) rest b in
     ap bytesOf (objects-take k rest ∙ ap (λ (m : ℕ). objectsOf (take m rest)) (four-times k)) ∙ bytes-objects (take (k * 4) rest) below (omega (arith, size))
 
 -- an identity of some objects
@@ -189,7 +184,7 @@ passed-more at c bytes r n b begun found follows more = go (told (w .kind) (w .r
         let number = svidIn (w .rest) in
         more-as c bytes (svidKind ∷ w .rest) (w .bytes-are ∙ ap (λ (x : ℕ). x ∷ w .rest) k) r (Svid number) variant n 3 (size 2 l) (record {
           bytes-are = passed-svid c number (svidKind ∷ w .rest) ∙ ap (λ (x : List ℕ). passedBytes c ++ x) (svid-record (w .rest) below (omega (arith, l, w .there)));
-          begun = λ empty. absurd (listed-begun (walkOf at c) (svidsOf (c .entries)) number (ap (mayFollow (walkOf at c) (svidsOf (c .entries))) (sym variant) ∙ follows) empty);
+          begun = λ empty. absurd (omega (arith, listed-as (walkOf at c) (svidsOf (c .entries)) number (ap (mayFollow (walkOf at c) (svidsOf (c .entries))) (sym variant) ∙ follows) .begun, empty));
         })
     go (mode k e l) =
         let variant = w .record-is ∙ e in

@@ -1,112 +1,77 @@
 -- Accepted bytes, written again, are the same bytes.
 use mathlib.Core.Path.{_≡_, refl, ap, sym, _∙_}
-use mathlib.Core.Bool.{Bool, true, false, cond}
-use mathlib.Core.List.{List, [], _∷_, _++_, append-assoc}
-use Prim.Native.Nat.{ℕ, zero, suc, _+_, _<_}
+use mathlib.Core.List.{List, [], _∷_, _++_}
+use Prim.Native.Nat.{ℕ, _+_, _<_}
 use native.Mathlib.Omega.{arith}
-use lib.ListN.{length, take, drop, take-append-drop}
-use lib.Seq.{getD-drop}
-use borrow.Author.Tests.{ltb-true}
+use lib.ListN.{length, take, drop, length-drop, take-append-drop}
+use lib.Seq.{take-add}
 use Rattle.laws.specs.Bounded.{Below}
-use Rattle.laws.proofs.Lines.{and-left}
 use Rattle.laptop.specs.Catalogue.{Catalogue}
 use Rattle.catalogue.specs.Bytes.{endKind, entriesBytes, catalogueBytes}
-use Rattle.records.specs.Records.{foundIn, unknownKind, cutRecord}
-use Rattle.records.specs.declared.Found.{Found}
-use Rattle.records.specs.declared.Found.the-variants.{Whole, Unknown, Cut, Nothing}
+use Rattle.records.specs.Records.{foundIn, bodyLength}
+use Rattle.records.specs.declared.Found.the-variants.{Whole}
 use Rattle.records.specs.declared.Record.{Record}
 use Rattle.records.specs.declared.Record.the-variants.{Identity, Svid, Mode, End}
 use Rattle.records.proofs.Laws.{IsWhole, whole, Told, told}
 use Rattle.records.proofs.Laws.Told.{identity, svid, mode, end}
-use Rattle.judging.specs.Judging.{Judgement, judgement, outOfOrder, bytesAfterEnd, ended, walkFrom, nothingYet, judgementOf}
-use Rattle.judging.specs.Walking.{svidsOf, walkOf, isEnd, mayFollow, added}
-use Rattle.judging.proofs.Following.{end-first}
-use Rattle.catalogue_laws.proofs.Passing.{passedBytes, Begun, passed-more}
-use Rattle.catalogue_laws.proofs.Turns.{turn-unknown, turn-cut, turn-nothing, turn-wrong, turn-end, turn-on}
+use Rattle.judging.specs.Judging.{judgementOf}
+use Rattle.judging.specs.Walking.{svidsOf, walkOf}
+use Rattle.judging.proofs.Following.{ended-closed}
+use Rattle.catalogue_laws.specs.Given.{Passed}
+use Rattle.catalogue_laws.specs.Given.Passed.{front, behind}
+use Rattle.catalogue_laws.proofs.Accepted.{Ended, accepted-ended}
+use Rattle.catalogue_laws.proofs.Below.{drop-below}
+use Rattle.catalogue_laws.proofs.Passing.{passedBytes, Begun, PassedMore, passed-more}
+use Rattle.catalogue_laws.proofs.Words.{right-exactly}
 
--- the end behind what was passed makes a catalogue's bytes
-passed-ended : (c : Catalogue) → (length (c .identity) ≡ 0 → ⊥) → passedBytes c ++ endKind ∷ [] ≡ catalogueBytes c
+-- what was passed is the front of the bytes
+pub passed-bytes : {bytes : List ℕ} {at : ℕ} {c : Catalogue} → Below 256 bytes → Passed bytes at c → (passedBytes c ≡ take at bytes) × Begun c
+unfolding passedBytes entriesBytes
+passed-bytes b front = (refl, λ none. refl)
+passed-bytes {bytes} b (behind {at} {c} p r n e right more) =
+    let before = passed-bytes b p in
+    let one = passed-more at c (drop at bytes) r n (drop-below 256 at bytes b) (before .1) e (right-exactly at c r .1 right) more in
+    (one .bytes-are ∙ ap (λ (l : List ℕ). l ++ take n (drop at bytes)) (before .0) ∙ sym (take-add at n bytes), one .begun)
+
+-- the end behind it makes a catalogue's bytes
+passed-ended : (c : Catalogue) → 0 < length (c .identity) → passedBytes c ++ endKind ∷ [] ≡ catalogueBytes c
 unfolding passedBytes catalogueBytes
 passed-ended c begun = go (c .identity) begun
   where
-    go : (objects : List ℕ) → (length objects ≡ 0 → ⊥) →
+    go : (objects : List ℕ) → 0 < length objects →
         passedBytes (record { identity = objects; entries = c .entries }) ++ endKind ∷ [] ≡ catalogueBytes (record { identity = objects; entries = c .entries })
-    go [] begun = absurd (begun refl)
+    go [] begun = absurd (omega arith)
     go (object ∷ objects) begun = refl
 
--- an end record is one byte
-end-record : (bytes : List ℕ) (r : Record) (n : ℕ) → foundIn bytes ≡ Whole r n → isEnd r ≡ true → (r ≡ End) × (bytes ≡ endKind ∷ drop n bytes)
-end-record bytes r n found is = go (told (w .kind) (w .rest) (w .known))
+-- where an end record is all that is left, its kind is
+end-byte : (bytes : List ℕ) (n : ℕ) → foundIn bytes ≡ Whole End n → length bytes ≡ n → bytes ≡ endKind ∷ []
+end-byte bytes n found all = go (told (w .kind) (w .rest) (w .known))
   where
-    w : IsWhole bytes r n
-    w = whole bytes r n found
+    w : IsWhole bytes End n
+    w = whole bytes End n found
 
-    never : (variant : Record) → r ≡ variant → isEnd variant ≡ false → ⊥
-    never variant e f = let z : _≡_ {A = Bool} true false = sym is ∙ ap isEnd e ∙ f in let y : _≡_ {A = ℕ} 0 1 = cc in omega arith
+    never : (r : Record) → End ≡ r → (End ≡ r → _≡_ {A = ℕ} 0 1) → bytes ≡ endKind ∷ []
+    never r e other = absurd (omega (arith, other e))
 
-    go : Told (w .kind) (w .rest) → (r ≡ End) × (bytes ≡ endKind ∷ drop n bytes)
-    go (identity i e l) = absurd (never _ (w .record-is ∙ e) refl)
-    go (svid k e l) = absurd (never _ (w .record-is ∙ e) refl)
-    go (mode k e l) = absurd (never _ (w .record-is ∙ e) refl)
+    empty : (l : List ℕ) → length l ≡ 0 → l ≡ []
+    empty [] e = refl
+    empty (x ∷ l) e = absurd (omega (arith, e))
+
+    go : Told (w .kind) (w .rest) → bytes ≡ endKind ∷ []
+    go (identity i e l) = never (Identity (w .kind)) (w .record-is ∙ e) (λ h. cc)
+    go (svid k e l) = never (Svid _) (w .record-is ∙ e) (λ h. cc)
+    go (mode k e l) = never (Mode _) (w .record-is ∙ e) (λ h. cc)
     go (end k e l) =
-        let one : n ≡ 1 = w .length-is ∙ ap (λ (m : ℕ). 1 + m) l in
-        let known : bytes ≡ endKind ∷ w .rest = w .bytes-are ∙ ap (λ (x : ℕ). x ∷ w .rest) k in
-        let rest : drop n bytes ≡ w .rest = ap (λ (m : ℕ). drop m bytes) one ∙ ap (drop 1) known in
-        (w .record-is ∙ e, known ∙ ap (λ (x : List ℕ). endKind ∷ x) (sym rest))
-
-drop-below : (n : ℕ) (l : List ℕ) → Below 256 l → Below 256 (drop n l)
-drop-below n l b k = rw (getD-drop n l k 0) (b (n + k))
-
--- a walk that comes to its end has passed all bytes
-abbrev Ends : ℕ → ℕ → Catalogue → List ℕ → Type 0
-Ends records at c bytes =
-    walkFrom records at c bytes .refusal ≡ 0 → catalogueBytes (walkFrom records at c bytes .catalogue) ≡ passedBytes c ++ bytes
-
-ends-as : (records at : ℕ) (c : Catalogue) (bytes : List ℕ) (j : Judgement) → walkFrom records at c bytes ≡ j →
-    (j .refusal ≡ 0 → catalogueBytes (j .catalogue) ≡ passedBytes c ++ bytes) → Ends records at c bytes
-ends-as records at c bytes j e same accepted = ap (λ (x : Judgement). catalogueBytes (x .catalogue)) e ∙ same (ap (λ (x : Judgement). x .refusal) (sym e) ∙ accepted)
-
-at-end : (at : ℕ) (c : Catalogue) (bytes rest : List ℕ) → (length (c .identity) ≡ 0 → ⊥) → bytes ≡ endKind ∷ rest →
-    ended at c rest .refusal ≡ 0 → catalogueBytes (ended at c rest .catalogue) ≡ passedBytes c ++ bytes
-unfolding ended
-at-end at c bytes [] begun e accepted = sym (ap (λ (l : List ℕ). passedBytes c ++ l) e ∙ passed-ended c begun)
-at-end at c bytes (byte ∷ rest) begun e accepted = absurd (omega (arith, accepted))
-
--- one turn, where the walk behind it comes to its end so
-module _ (records at : ℕ) (c : Catalogue) (bytes : List ℕ) (b : Below 256 bytes) (begun : Begun c)
-    (further : (k : ℕ) (d : Catalogue) (rest : List ℕ) → Below 256 rest → Begun d → Ends records k d rest) where
-  stops : (number : ℕ) → walkFrom (suc records) at c bytes ≡ judgement number at c → (number ≡ 0 → ⊥) → Ends (suc records) at c bytes
-  stops number e other = ends-as (suc records) at c bytes (judgement number at c) e (λ z. absurd (other z))
-
-  at-whole : (r : Record) (n : ℕ) → foundIn bytes ≡ Whole r n → (follows is : Bool) →
-      mayFollow (walkOf at c) (svidsOf (c .entries)) r ≡ follows → isEnd r ≡ is → Ends (suc records) at c bytes
-  unfolding walkOf
-  at-whole r n found false is ef ei = stops outOfOrder (turn-wrong records at c bytes r n found ef) (λ z. omega (arith, z))
-  at-whole r n found true true ef ei =
-      let e = end-record bytes r n found ei in
-      let some : length (c .identity) ≡ 0 → ⊥ = λ none.
-      let z : _≡_ {A = Bool} true false = sym ef ∙ ap (mayFollow (walkOf at c) (svidsOf (c .entries))) (e .0) ∙ end-first (walkOf at c) (svidsOf (c .entries)) none in
-      let y : _≡_ {A = ℕ} 0 1 = cc in omega arith in
-      ends-as (suc records) at c bytes (ended (at + n) c (drop n bytes)) (turn-end records at c bytes r n found ef ei) (at-end (at + n) c bytes (drop n bytes) some (e .1))
-  at-whole r n found true false ef ei =
-      let p = passed-more at c bytes r n b begun found ef ei in
-      ends-as (suc records) at c bytes (walkFrom records (at + n) (added c r bytes) (drop n bytes)) (turn-on records at c bytes r n found ef ei) (λ accepted.
-      further (at + n) (added c r bytes) (drop n bytes) (drop-below n bytes b) (p .begun) accepted ∙
-      ap (λ (l : List ℕ). l ++ drop n bytes) (p .bytes-are) ∙ append-assoc (passedBytes c) (take n bytes) (drop n bytes) ∙
-      ap (λ (l : List ℕ). passedBytes c ++ l) (take-append-drop n bytes))
-
-  one-turn : (f : Found) → foundIn bytes ≡ f → Ends (suc records) at c bytes
-  one-turn (Whole r n) e = at-whole r n e (mayFollow (walkOf at c) (svidsOf (c .entries)) r) (isEnd r) refl refl
-  one-turn Unknown e = stops unknownKind (turn-unknown records at c bytes e) (λ z. omega (arith, z))
-  one-turn Cut e = stops cutRecord (turn-cut records at c bytes e) (λ z. omega (arith, z))
-  one-turn Nothing e = stops cutRecord (turn-nothing records at c bytes e) (λ z. omega (arith, z))
-
-passes-all : (records at : ℕ) (c : Catalogue) (bytes : List ℕ) → Below 256 bytes → Begun c → Ends records at c bytes
-unfolding walkFrom
-passes-all zero at c bytes b begun = λ z. absurd (omega (arith, z))
-passes-all (suc records) at c bytes b begun =
-    one-turn records at c bytes b begun (λ k d rest. passes-all records k d rest) (foundIn bytes) refl
+        let none : w .rest ≡ [] = empty (w .rest) (omega (arith, w .length-is, l, all, ap length (w .bytes-are))) in
+        w .bytes-are ∙ ap (λ (x : ℕ). x ∷ w .rest) k ∙ ap (λ (x : List ℕ). endKind ∷ x) none
 
 pub write-read : (bytes : List ℕ) → Below 256 bytes → judgementOf bytes .refusal ≡ 0 → catalogueBytes (judgementOf bytes .catalogue) ≡ bytes
-unfolding judgementOf passedBytes entriesBytes
-write-read bytes b = passes-all (suc (length bytes)) 0 nothingYet bytes b (λ none. refl)
+unfolding walkOf
+write-read bytes b accepted =
+    let c = judgementOf bytes .catalogue in
+    let e = accepted-ended bytes accepted in
+    let begun = ended-closed (walkOf (e .place) c) (svidsOf (c .entries)) (right-exactly (e .place) c End .1 (e .right)) .0 in
+    let rest : drop (e .place) bytes ≡ endKind ∷ [] =
+    end-byte (drop (e .place) bytes) (e .size) (e .end-is) (omega (arith, length-drop (e .place) bytes, e .behind, e .all)) in
+    sym (passed-ended c begun) ∙ ap (λ (l : List ℕ). l ++ endKind ∷ []) (passed-bytes b (e .passed) .0) ∙
+    ap (λ (l : List ℕ). take (e .place) bytes ++ l) (sym rest) ∙ take-append-drop (e .place) bytes

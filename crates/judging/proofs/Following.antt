@@ -5,7 +5,7 @@ use mathlib.Core.List.{List}
 use Prim.Native.Nat.{ℕ, _<_, _≤_}
 use native.Mathlib.Omega.{arith}
 use lib.Dec.{ltb, eqb}
-use borrow.Author.Tests.{lt-ltb, le-ltb, eq-eqb, ne-eqb, ltb-true}
+use borrow.Author.Tests.{lt-ltb, le-ltb, eq-eqb, ne-eqb, ltb-true, eqb-false, not-true}
 use Rattle.laws.proofs.Lines.{and-left, and-right}
 use Rattle.pages.specs.Lists.{mostSvids, isIn}
 use Rattle.laptop.specs.Catalogue.{modesEach}
@@ -22,6 +22,14 @@ zero-ltb n e = le-ltb 0 n (omega arith)
 
 some-ltb : (n : ℕ) → (n ≡ 0 → ⊥) → ltb 0 n ≡ true
 some-ltb n some = lt-ltb 0 n (omega arith)
+
+-- an SVID that may follow
+pub record Listed (w : Walk) (svids : List ℕ) (svid : ℕ) : Type 0 where
+  pub begun : 0 < w .extent
+  pub closed : isBare w ≡ false
+  pub some : svid ≡ 0 → ⊥
+  pub room : w .count < mostSvids
+  pub new : isIn svid svids ≡ false
 
 module _ (w : Walk) where
   pub bare-none : w .count ≡ 0 → isBare w ≡ false
@@ -59,19 +67,25 @@ module _ (w : Walk) where
             list-new room =
                 simp (some-ltb (w .extent) begun, closed, ne-eqb svid 0 some, lt-ltb (w .count) mostSvids room) (and-true (not (isIn svid svids)))
 
-      -- where it may follow
-      pub listed-begun : mayFollow w svids (Svid svid) ≡ true → w .extent ≡ 0 → ⊥
-      listed-begun e none = let z : _≡_ {A = Bool} true false = sym e ∙ list-first none in let y : _≡_ {A = ℕ} 0 1 = cc in omega arith
-
-      pub listed-room : mayFollow w svids (Svid svid) ≡ true → w .count < mostSvids
+      -- where it may follow, all of this holds
+      pub listed-as : mayFollow w svids (Svid svid) ≡ true → Listed w svids svid
       unfolding mayFollow
-      listed-room e =
+      listed-as e =
           let a = ltb 0 (w .extent) in
           let b = not (isBare w) in
           let z = not (eqb svid 0) in
           let r = ltb (w .count) mostSvids in
           let n = not (isIn svid svids) && true in
-          ltb-true (w .count) mostSvids (and-left r n (and-right z (r && n) (and-right b (z && (r && n)) (and-right a (b && (z && (r && n))) e))))
+          let e₁ = and-right a (b && (z && (r && n))) e in
+          let e₂ = and-right b (z && (r && n)) e₁ in
+          let e₃ = and-right z (r && n) e₂ in
+          record {
+            begun = ltb-true 0 (w .extent) (and-left a (b && (z && (r && n))) e);
+            closed = not-true (isBare w) (and-left b (z && (r && n)) e₁);
+            some = eqb-false svid 0 (not-true (eqb svid 0) (and-left z (r && n) e₂));
+            room = ltb-true (w .count) mostSvids (and-left r n e₃);
+            new = not-true (isIn svid svids) (and-left (not (isIn svid svids)) true (and-right r n e₃));
+          }
 
     -- a mode
     module _ (mode : ℕ) where
@@ -98,3 +112,10 @@ module _ (w : Walk) where
     pub end-closed : (w .extent ≡ 0 → ⊥) → mayFollow w svids End ≡ not (isBare w)
     unfolding mayFollow
     end-closed begun = simp (some-ltb (w .extent) begun) (and-true (not (isBare w)))
+
+    pub ended-closed : mayFollow w svids End ≡ true → (0 < w .extent) × (isBare w ≡ false)
+    unfolding mayFollow
+    ended-closed e =
+        let a = ltb 0 (w .extent) in
+        let b = not (isBare w) in
+        (ltb-true 0 (w .extent) (and-left a (b && true) e), not-true (isBare w) (and-left b true (and-right a (b && true) e)))

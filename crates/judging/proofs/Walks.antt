@@ -22,7 +22,7 @@ use Rattle.judging.specs.Noting.{walkBehind, svidsNoted, numbersNoted}
 use Rattle.judging.specs.Walking.{svidsOf, numbersOf, allModes, lastNumber, walkOf, mayFollow, withMode, added}
 use Rattle.judging.specs.declared.walk.Walk.{Walk}
 use Rattle.judging.proofs.Entries.{svids-append, numbers-append, modes-append, length-svids, length-numbers, last-behind, more, mode-behind, Split, split}
-use Rattle.judging.proofs.Following.{listed-room, added-under}
+use Rattle.judging.proofs.Following.{listed-as, added-under}
 
 walk-equal : (at : ℕ) {extent extent′ count count′ last last′ modes modes′ : ℕ} → extent ≡ extent′ → count ≡ count′ → last ≡ last′ → modes ≡ modes′ →
     _≡_ {A = Walk} (record { at = at; extent = extent; count = count; last = last; modes = modes })
@@ -125,14 +125,14 @@ behind-walk at c bytes r n found follows = go (told (w .kind) (w .rest) (w .know
     go (svid k e l) =
         let variant = w .record-is ∙ e in
         let number = svidIn (w .rest) in
-        let room = listed-room (walkOf at c) (svidsOf (c .entries)) number (ap (mayFollow (walkOf at c) (svidsOf (c .entries))) (sym variant) ∙ follows) in
+        let may = listed-as (walkOf at c) (svidsOf (c .entries)) number (ap (mayFollow (walkOf at c) (svidsOf (c .entries))) (sym variant) ∙ follows) in
         let walk-as = behind-svid at c n number bytes in
         let noted-as = noted-svid at c n number bytes in
         behind-as at c n bytes bytes refl r (Svid number) variant (record {
           walk-is = walk-as;
           svids-are = noted-as .0;
           numbers-are = noted-as .1;
-          count-most = λ few. omega (arith, room, ap (λ (x : Walk). x .count) walk-as);
+          count-most = λ few. omega (arith, may .room, ap (λ (x : Walk). x .count) walk-as);
           modes-most = omega (arith, ap (λ (x : Walk). x .modes) walk-as);
         })
     go (mode k e l) =

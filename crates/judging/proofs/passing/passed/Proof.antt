@@ -4,7 +4,7 @@ use native.Mathlib.Omega.{arith}
 use Rattle.records.specs.declared.Record.the-variants.{Identity, Svid, Mode, End}
 use Rattle.judging.specs.Noting.{svidsNoted, numbersNoted}
 use Rattle.judging.specs.Walking.{mayFollow}
-use Rattle.judging.proofs.Following.{listed-room, added-under}
+use Rattle.judging.proofs.Following.{listed-as, added-under}
 use Rattle.judging.proofs.Noted.{noted-as}
 use borrow.Author.Needs.{needs}
 use Rattle.judging.proofs.passing.passed.Statement.{statement}
@@ -22,7 +22,7 @@ enum-known-record-2 c = search needs
 listed-requires : tie.Need-listed-requires
 listed-requires c κs =
     let pre = c .before .before .before .before .before .pre in
-    (pre .0, listed-room (c .before .before .before .before .before .args .walk) (pre .3 .0) _ (sym (ap (mayFollow (c .before .before .before .before .before .args .walk) (pre .3 .0)) (c .before .before .before .record2 .given .1)) ∙ pre .3 .1))
+    (pre .0, listed-as (c .before .before .before .before .before .args .walk) (pre .3 .0) _ (sym (ap (mayFollow (c .before .before .before .before .before .args .walk) (pre .3 .0)) (c .before .before .before .record2 .given .1)) ∙ pre .3 .1) .room)
 
 enum-told : tie.Need-enum-told
 enum-told c = search needs

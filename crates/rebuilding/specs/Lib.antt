@@ -1,0 +1,2 @@
+-- Document 02, R-1: the catalogue rebuilt from its bytes.
+pub mod Rebuilding

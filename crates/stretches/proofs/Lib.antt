@@ -1,0 +1,2 @@
+-- Laws on the stretch of one SVID, a file for each topic.
+pub mod Placing

@@ -1,0 +1,2 @@
+-- Document 02, R-1: the stretch of one SVID.
+pub mod Stretches

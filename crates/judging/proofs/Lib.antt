@@ -3,5 +3,6 @@ pub mod Cases
 pub mod Entries
 pub mod Following
 pub mod Noted
+pub mod Places
 pub mod Underway
 pub mod Walks

@@ -1,2 +1,3 @@
 -- Laws on the stretch of one SVID, a file for each topic.
+pub mod Finding
 pub mod Placing

@@ -1,31 +1,28 @@
+-- `find_stretch` meets its promise.
+use mathlib.Core.Path.{_∙_}
+use native.Mathlib.Omega.{arith}
+use Rattle.stretches.proofs.Finding.{stretch-fault, noted-as, walk-bounds, stretch-sound}
 use borrow.Author.Needs.{needs}
 use Rattle.stretches.proofs.find_stretch.Statement.{statement}
 use Rattle.stretches.proofs.find_stretch.Tie as tie
-use Rattle.stretches.proofs.find_stretch.Reads as reads
-use Rattle.stretches.proofs.find_stretch.Lts as lts
-use Rattle.judging.proofs.judge.Reads as judge-reads
-use Rattle.stretches.proofs.place_in.Reads as place-in-reads
-use Rattle.stretches.proofs.refused.Reads as refused-reads
 
--- src/lib.rt:75:9
 judge-requires : tie.Need-judge-requires
 judge-requires c κs = search needs
 
--- src/lib.rt:78:9
 refused-requires : tie.Need-refused-requires
 refused-requires c κs = search needs
 
--- src/lib.rt:78:9
 returns : tie.Need-returns
-returns c = ?
+returns c =
+    c .refused .ensures ∙ stretch-fault (c .before .before .before .before .judge .ensures) (c .before .before .before .before .before .before .before .before .args .svid) (c .before .if1 .taken)
 
--- src/lib.rt:80:5
 place-in-requires : tie.Need-place-in-requires
-place-in-requires c κs = ?
+place-in-requires c κs =
+    walk-bounds (c .before .before .before .before .before .judge .ensures)
 
--- src/lib.rt:70:1
 returns-2 : tie.Need-returns-2
-returns-2 c = ?
+returns-2 c =
+    c .place-in .ensures _ (noted-as (c .before .before .before .before .before .before .judge .ensures)) ∙ stretch-sound (c .before .before .before .before .before .before .judge .ensures) (c .before .before .before .before .before .before .before .before .before .before .args .svid) (omega (arith, c .before .before .before .if1 .left))
 
 pub find-stretch-spec : {M : Type 1} → statement M
 find-stretch-spec =

@@ -1,0 +1,2 @@
+-- Laws on the catalogue rebuilt from its bytes, a file for each topic.
+pub mod Putting

@@ -6,6 +6,7 @@ pub mod Below
 pub mod Bounds
 pub mod Front
 pub mod Given
+pub mod Judged
 pub mod Known
 pub mod Limits
 pub mod Parts

@@ -33,7 +33,7 @@ unfolding objectsOf bytesOf bytesOfObject
 objects-front [] rest = refl
 objects-front (w ∷ ws) rest = ap (λ (l : List ℕ). objectOf (bits 7 0 w) (bits 15 8 w) (bits 23 16 w) (bits 31 24 w) ∷ l) (objects-front ws rest)
 
-objects-again : (ws rest : List ℕ) → Below (2 ^ 32) ws → take (length ws) (objectsOf (bytesOf ws ++ rest)) ≡ ws
+pub objects-again : (ws rest : List ℕ) → Below (2 ^ 32) ws → take (length ws) (objectsOf (bytesOf ws ++ rest)) ≡ ws
 objects-again ws rest fits = rw (objects-front ws rest, objects-bytes ws fits) (take-append-seam ws (objectsOf rest))
 
 -- a catalogue whose last entry is this one

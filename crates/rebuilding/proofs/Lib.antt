@@ -1,2 +1,3 @@
 -- Laws on the catalogue rebuilt from its bytes, a file for each topic.
+pub mod Outcomes
 pub mod Putting

@@ -1,7 +1,8 @@
 -- `find_stretch` meets its promise.
 use mathlib.Core.Path.{_∙_}
 use native.Mathlib.Omega.{arith}
-use Rattle.stretches.proofs.Finding.{stretch-fault, noted-as, walk-bounds, stretch-sound}
+use Rattle.catalogue_laws.proofs.Judged.{walk-bounds}
+use Rattle.stretches.proofs.Finding.{stretch-fault, noted-as, stretch-sound}
 use borrow.Author.Needs.{needs}
 use Rattle.stretches.proofs.find_stretch.Statement.{statement}
 use Rattle.stretches.proofs.find_stretch.Tie as tie

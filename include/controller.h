@@ -243,7 +243,7 @@ uint32_t catalogue_read(const uint8_t *bytes, controller_count bytes_count, uint
 
 /* Finds the mode records of one SVID in a catalogue's bytes: they begin at the offset, and are `length` bytes. Refused 15 to 18, then 12 if the SVID is not
    there. */
-uint32_t catalogue_stretch(const uint8_t *bytes, controller_count bytes_count, uint16_t svid, uint8_t *length);
+uint32_t catalogue_stretch(const uint8_t *bytes, controller_count bytes_count, uint16_t svid, uint16_t *length);
 
 #ifdef __cplusplus
 }

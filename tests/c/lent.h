@@ -16,7 +16,7 @@ struct reader {
     uint32_t identity[CONTROLLER_IDENTITY_OBJECTS];
     uint32_t run[CONTROLLER_RUN_WORDS];
     uint16_t sizes[CONTROLLER_SIZES];
-    uint8_t length;
+    uint16_t length;
 };
 
 struct lent {

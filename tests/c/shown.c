@@ -175,7 +175,7 @@ void show_stretch(unsigned result) {
     const struct reader *r = &lent.reader;
     if (!print_read(result)) return;
     printf(", length %u, bytes ", r->length);
-    for (int i = 0; i < r->length; i++) printf("%02X", r->bytes[CONTROLLER_OFFSET(result) + i]);
+    for (uint32_t i = 0; i < r->length; i++) printf("%02X", r->bytes[CONTROLLER_OFFSET(result) + i]);
 }
 
 void show_fresh_dock(unsigned refusal) {

@@ -12,6 +12,7 @@ pub mod Limits
 pub mod Parts
 pub mod Passing
 pub mod ReadWrite
+pub mod Reach
 pub mod Reading
 pub mod Sized
 pub mod Sizes

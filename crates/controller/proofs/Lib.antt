@@ -6,4 +6,5 @@ pub mod LaptopHanding
 pub mod LaptopNumbers
 pub mod Laws
 pub mod Only
+pub mod ReadingBack
 pub mod Refusing

@@ -1,3 +1,4 @@
 -- Laws on the catalogue rebuilt from its bytes, a file for each topic.
+pub mod Laws
 pub mod Outcomes
 pub mod Putting

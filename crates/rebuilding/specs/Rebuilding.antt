@@ -1,6 +1,6 @@
 -- The catalogue rebuilt from its bytes, in what the caller lends (02, R-1).
 use mathlib.Core.Path.{_≡_}
-use Prim.Native.Nat.{ℕ, suc, _*_}
+use Prim.Native.Nat.{ℕ, suc, _*_, _≤_}
 use mathlib.Core.Bool.{cond}
 use mathlib.Core.List.{List, [], _∷_}
 use lib.Dec.{ltb, eqb}
@@ -8,6 +8,8 @@ use lib.ListN.{length}
 use lib.Seq.{sets}
 use Rattle.laws.specs.Padded.{padded}
 use Rattle.laptop.specs.Catalogue.{Entry, Catalogue, modesEach, runWords}
+use Rattle.pages.specs.Lists.{mostSvids}
+use Rattle.catalogue.specs.Bytes.{mostObjects, mostBytes}
 use Rattle.judging.specs.Judging.{Judgement, judgementOf, noted}
 use Rattle.judging.specs.Walking.{svidsOf, numbersOf, allModes}
 use Rattle.rebuilding.specs.declared.Rebuilt.{Rebuilt}
@@ -60,3 +62,10 @@ readInto j before = cond (ltb (length (before .run)) runWords) before (cond (eqb
 pub record CatalogueRead (bytes : List ℕ) (before : Arrays) (result : Rebuilt) (after : Arrays) : Type 0 where
   pub result-is : result ≡ readAs (length (before .run)) (judgementOf bytes)
   pub arrays-are : after ≡ readInto (judgementOf bytes) before
+
+-- places and sizes that 01's limits allow
+pub record Small (result : Rebuilt) : Type 0 where
+  pub at-most : result .at ≤ mostBytes
+  pub extent-most : result .extent ≤ mostObjects
+  pub count-most : result .count ≤ mostSvids
+  pub modes-most : result .modes ≤ runWords

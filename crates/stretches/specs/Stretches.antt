@@ -8,10 +8,11 @@ use lib.ListN.{length, take, drop}
 use denote.Ref.{RefT}
 use Rattle.laptop.specs.Catalogue.{Entry, Catalogue}
 use Rattle.catalogue.specs.Bytes.{modesBytes, entryBytes}
-use Rattle.judging.specs.Judging.{Judgement, noted}
+use Rattle.judging.specs.Judging.{Judgement, judgementOf, noted}
 use Rattle.judging.specs.Walking.{svidsOf, numbersOf}
 use Rattle.judging.specs.declared.walk.Walk.{Walk}
 use Rattle.stretches.specs.declared.Place.{Place}
+use Rattle.stretches.specs.declared.Stretch.{Stretch}
 
 -- 12: the file is sound, and the SVID is not in it
 abbrev pub notListed : ℕ
@@ -51,3 +52,9 @@ pub record PartOf (bytes : RefT (List ℕ)) (place : Place) (part : RefT (List �
   pub bytes-are : part .now ≡ take (place .length) (drop (place .at) (bytes .now))
   pub block-is : part .ptr .0 ≡ bytes .ptr .0
   pub offset-is : part .ptr .1 ≡ bytes .ptr .1 + place .at
+
+-- what the stretch promises: the refusal, where the fault or the part stands, and the part
+pub record Stretched (bytes : RefT (List ℕ)) (svid : ℕ) (result : Stretch) : Type 0 where
+  pub refusal-is : result .refusal ≡ stretchIn (judgementOf (bytes .now)) svid .refusal
+  pub at-is : result .at ≡ stretchIn (judgementOf (bytes .now)) svid .at
+  pub part-is : PartOf bytes (stretchIn (judgementOf (bytes .now)) svid) (result .part)

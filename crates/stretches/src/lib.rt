@@ -5,7 +5,7 @@ ghost use Prim.Native.Nat.{_+_, _*_, _<_, _≤_};
 ghost use lib.ListN.{length};
 ghost use Rattle.laptop.specs.Catalogue.{Entry};
 ghost use Rattle.judging.specs.Judging.{judgementOf};
-ghost use Rattle.stretches.specs.Stretches.{refusedAt, NotedAs, placeIn, stretchIn, PartOf};
+ghost use Rattle.stretches.specs.Stretches.{refusedAt, NotedAs, placeIn, stretchIn, PartOf, Stretched};
 use judging::Walk;
 use judging::judge;
 use laptop::number_at;
@@ -80,6 +80,13 @@ pub fn find_stretch(bytes: &[u8], svid: u16) -> Place
     place_in(svid, walk, &svids, &numbers)
 }
 
+// What is handed back: that part of the bytes, none with a refusal; the refusal number; and where the fault or the part stands.
+pub struct Stretch<'a> {
+    pub part: &'a [u8],
+    pub refusal: u8,
+    pub at: usize,
+}
+
 // That part of the bytes.
 fn part_of(bytes: &[u8], place: Place) -> &[u8]
     requires { ⌜ place .at + place .length ≤ length (now bytes) ⌝ }
@@ -88,4 +95,16 @@ fn part_of(bytes: &[u8], place: Place) -> &[u8]
     let at = place.at;
     let end = at + place.length;
     &bytes[at..end]
+}
+
+// The run of bytes that holds the mode records of the SVID, as that stretch of the caller's own buffer.
+pub fn stretch_of<'a>(bytes: &'a [u8], svid: u16) -> Stretch<'a>
+    ensures { λ r. ⌜ Stretched (bytes .entry) svid r ⌝ }
+{
+    let place = find_stretch(bytes, svid);
+    Stretch {
+        part: part_of(bytes, place),
+        refusal: place.refusal,
+        at: place.at,
+    }
 }

@@ -31,6 +31,10 @@ pub six-objects : (l : List ℕ) (p q r s t u : ℕ) → p ≡ getD l 0 0 → q 
     p ∷ q ∷ r ∷ s ∷ t ∷ u ∷ [] ≡ padded l
 six-objects l p q r s t u ep eq er es et eu = rw (ep, eq, er, es, et, eu) (padded-at l)
 
+pub none-behind : (bytes : List ℕ) → length bytes ≡ 0 → bytes ≡ drop 1 bytes
+none-behind [] e = refl
+none-behind (x ∷ bytes) e = absurd (omega arith)
+
 -- where the loop over words stands
 pub record PuttingWords (bytes : List ℕ) (at number : ℕ) (start : List ℕ) (place : ℕ) (run : List ℕ) (i : ℕ) : Type 0 where
   pub within : i ≤ number

@@ -30,21 +30,31 @@ fn object_of(body: &[u8], extent: usize, i: usize) -> u32
     0
 }
 
-// The bytes from a place on, none past their end.
-fn bytes_from(bytes: &[u8], at: usize) -> &[u8]
-    ensures { λ r. ⌜ now r ≡ drop at (now (bytes .entry)) ⌝ }
+// The bytes behind the first, none where there is none.
+fn behind_first(bytes: &[u8]) -> &[u8]
+    ensures { λ r. ⌜ now r ≡ drop 1 (now (bytes .entry)) ⌝ }
 {
-    if at <= bytes.len() {
-        return &bytes[at..];
+    if 1 <= bytes.len() {
+        return &bytes[1..];
     }
-    &bytes[0..0]
+    bytes
+}
+
+// The word at an offset, 0 where the bytes end before it does.
+fn word_at(bytes: &[u8], at: usize) -> u32
+    ensures { λ r. ⌜ r ≡ getD (objectsOf (drop at (now (bytes .entry)))) 0 0 ⌝ }
+{
+    if bytes.len() < at {
+        return 0;
+    }
+    object_at(&bytes[at..], 0)
 }
 
 // An identity's objects stand behind its kind.
 pub(crate) fn objects_in(bytes: &[u8], extent: usize) -> [u32; 6]
     ensures { λ r. ⌜ r ≡ padded (take extent (objectsOf (drop 1 (now (bytes .entry))))) ⌝ }
 {
-    let body = bytes_from(bytes, 1);
+    let body = behind_first(bytes);
     [
         object_of(body, extent, 0),
         object_of(body, extent, 1),
@@ -70,11 +80,7 @@ fn put_words(bytes: &[u8], at: usize, number: usize, run: &mut [u32], place: usi
 {
     let mut i = 0;
     while i < number {
-        put_word(
-            run,
-            place + i,
-            object_at(bytes_from(bytes, at + i * MODE_RECORD + 1), 0),
-        );
+        put_word(run, place + i, word_at(bytes, at + i * MODE_RECORD + 1));
         i += 1;
     }
 }

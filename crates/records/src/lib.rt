@@ -1,16 +1,12 @@
 // The records of a catalogue, one at a time over the caller's bytes. Documents 01, "Catalogue bytes", and 02, R-1.
-mod kinds;
 mod reader;
 
+ghost use mathlib.Core.Bool.{true};
 ghost use mathlib.Core.Path.{_≡_};
-ghost use Prim.Native.Nat.{_+_, _*_, _^_, _≤_};
-ghost use lib.ListN.{length};
-ghost use Rattle.records.specs.Records.{bodyLength, svidIn, recordOf, foundIn, foundAt, foundNumber};
-use kinds::MODE;
-use kinds::SVID;
-use kinds::body_length;
-use kinds::is_identity;
-use kinds::is_known;
+ghost use Prim.Native.Nat.{_+_, _*_, _^_, _<_};
+ghost use lib.ListN.{length, getD};
+ghost use Rattle.catalogue.specs.Bytes.{svidKind, modeKind, endKind};
+ghost use Rattle.records.specs.Records.{isIdentity, foundIn, foundAt, foundNumber};
 pub use reader::Reader;
 pub use reader::moved;
 pub use reader::next;
@@ -18,6 +14,26 @@ pub use reader::over;
 pub use reader::place;
 pub use reader::record_from;
 use reading::object_at;
+
+// The kinds of record; an identity's is the number of its objects.
+const LEAST_OBJECTS: u8 = 3;
+
+const MOST_OBJECTS: u8 = 6;
+
+const SVID: u8 = 0x10;
+
+const MODE: u8 = 0x20;
+
+const END: u8 = 0x00;
+
+// The number of bytes of an identity object, and of each record, the kind counted.
+const OBJECT: usize = 4;
+
+const SVID_RECORD: usize = 3;
+
+const MODE_RECORD: usize = 5;
+
+const END_RECORD: usize = 1;
 
 pub const UNKNOWN_KIND: u8 = 15;
 
@@ -40,34 +56,66 @@ pub enum Found {
     Nothing,
 }
 
+fn is_identity(kind: u8) -> bool
+    ensures { λ r. ⌜ r ≡ isIdentity kind ⌝ }
+{
+    if kind < LEAST_OBJECTS {
+        return false;
+    }
+    kind <= MOST_OBJECTS
+}
+
+// The kind is an identity's, of that many objects.
+fn identity_in(bytes: &[u8], kind: u8) -> Found
+    requires { ⌜ (0 < length (now bytes)) × (getD (now bytes) 0 0 ≡ kind) × (isIdentity kind ≡ true) ⌝ }
+    ensures { λ r. ⌜ r ≡ foundIn (now (bytes .entry)) ⌝ }
+{
+    let length = 1 + (kind as usize) * OBJECT;
+    if bytes.len() < length {
+        return Found::Cut;
+    }
+    Found::Whole(Record::Identity(kind), length)
+}
+
 fn svid_of(low: u8, high: u8) -> u16
     ensures { λ r. ⌜ r ≡ low + high * 2 ^ 8 ⌝ }
 {
     (low as u16) + (high as u16) * 256
 }
 
-fn svid_in(body: &[u8]) -> u16
-    requires { ⌜ 2 ≤ length (now body) ⌝ }
-    ensures { λ r. ⌜ r ≡ svidIn (now (body .entry)) ⌝ }
+// The length of each record is a constant in its own branch, so that a walk need not wait for the kind to know where the next one stands.
+fn svid_in(bytes: &[u8]) -> Found
+    requires { ⌜ (0 < length (now bytes)) × (getD (now bytes) 0 0 ≡ svidKind) ⌝ }
+    ensures { λ r. ⌜ r ≡ foundIn (now (bytes .entry)) ⌝ }
 {
-    svid_of(body[0], body[1])
+    if bytes.len() < SVID_RECORD {
+        return Found::Cut;
+    }
+    Found::Whole(Record::Svid(svid_of(bytes[1], bytes[2])), SVID_RECORD)
 }
 
-// The kind is known, and the body is whole.
-fn record_of(kind: u8, body: &[u8]) -> Record
-    requires { ⌜ bodyLength kind ≤ length (now body) ⌝ }
-    ensures { λ r. ⌜ r ≡ recordOf kind (now (body .entry)) ⌝ }
+fn mode_in(bytes: &[u8]) -> Found
+    requires { ⌜ (0 < length (now bytes)) × (getD (now bytes) 0 0 ≡ modeKind) ⌝ }
+    ensures { λ r. ⌜ r ≡ foundIn (now (bytes .entry)) ⌝ }
+{
+    if bytes.len() < MODE_RECORD {
+        return Found::Cut;
+    }
+    Found::Whole(Record::Mode(object_at(&bytes[1..], 0)), MODE_RECORD)
+}
+
+// The kind is none of the others.
+fn identity_or_unknown(bytes: &[u8], kind: u8) -> Found
+    requires { ⌜ (0 < length (now bytes)) × (getD (now bytes) 0 0 ≡ kind) × (kind ≡ svidKind → ⊥) × (kind ≡ modeKind → ⊥) × (kind ≡ endKind → ⊥) ⌝ }
+    ensures { λ r. ⌜ r ≡ foundIn (now (bytes .entry)) ⌝ }
 {
     if is_identity(kind) {
-        return Record::Identity(kind);
+        return identity_in(bytes, kind);
     }
-    match kind {
-        SVID => Record::Svid(svid_in(body)),
-        MODE => Record::Mode(object_at(body, 0)),
-        _ => Record::End,
-    }
+    Found::Unknown
 }
 
+// Modes come most often, so they are asked for first.
 fn record_in(bytes: &[u8]) -> Found
     ensures { λ r. ⌜ r ≡ foundIn (now (bytes .entry)) ⌝ }
 {
@@ -75,14 +123,12 @@ fn record_in(bytes: &[u8]) -> Found
         return Found::Nothing;
     }
     let kind = bytes[0];
-    if !is_known(kind) {
-        return Found::Unknown;
+    match kind {
+        MODE => mode_in(bytes),
+        SVID => svid_in(bytes),
+        END => Found::Whole(Record::End, END_RECORD),
+        _ => identity_or_unknown(bytes, kind),
     }
-    let length = 1 + body_length(kind);
-    if bytes.len() < length {
-        return Found::Cut;
-    }
-    Found::Whole(record_of(kind, &bytes[1..]), length)
 }
 
 // What stands at an offset of the bytes.

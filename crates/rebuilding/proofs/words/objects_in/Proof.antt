@@ -9,8 +9,8 @@ use borrow.Author.Needs.{needs}
 use Rattle.rebuilding.proofs.words.objects_in.Statement.{statement}
 use Rattle.rebuilding.proofs.words.objects_in.Tie as tie
 
-bytes-from-requires : tie.Need-bytes-from-requires
-bytes-from-requires c κs = search needs
+behind-first-requires : tie.Need-behind-first-requires
+behind-first-requires c κs = search needs
 
 object-of-requires : tie.Need-object-of-requires
 object-of-requires c κs = search needs
@@ -33,7 +33,7 @@ object-of-requires-6 c κs = search needs
 returns : tie.Need-returns
 returns c =
     let extent = c .before .before .before .before .before .before .before .before .args .extent in
-    let same = c .before .before .before .before .before .before .bytes-from .ensures in
+    let same = c .before .before .before .before .before .before .behind-first .ensures in
     six-objects (take extent (objectsOf (drop 1 (c .before .before .before .before .before .before .before .before .args .bytes .now)))) _ _ _ _ _ _
     (c .before .before .before .before .before .object-of .ensures ∙ ap (λ (b : List ℕ). getD (take extent (objectsOf b)) 0 0) same)
     (c .before .before .before .before .object-of2 .ensures ∙ ap (λ (b : List ℕ). getD (take extent (objectsOf b)) 1 0) same)
@@ -46,7 +46,7 @@ pub objects-in-spec : {M : Type 1} → statement M
 objects-in-spec =
     tie.close
     (tie.spec
-    bytes-from-requires
+    behind-first-requires
     object-of-requires
     object-of-requires-2
     object-of-requires-3

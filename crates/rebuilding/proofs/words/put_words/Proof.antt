@@ -1,11 +1,7 @@
 -- `put_words` meets its promise: what is left, put from where the loop stands, gives what all of it gives at the start.
-use mathlib.Core.Path.{_≡_, ap, _∙_}
-use Prim.Native.Nat.{ℕ, _-_}
-use mathlib.Core.List.{List}
+use Prim.Native.Nat.{_-_}
 use native.Mathlib.Omega.{arith}
-use lib.ListN.{getD}
 use borrow.Author.Needs.{needs}
-use Rattle.messages.specs.Layout.{objectsOf}
 use Rattle.rebuilding.proofs.Putting.{PuttingWords, words-start, words-next, words-end}
 use Rattle.rebuilding.proofs.words.put_words.Statement.{statement}
 use Rattle.rebuilding.proofs.words.put_words.Tie as tie
@@ -26,24 +22,20 @@ add-put-word : tie.Need-add-put-word Inv-loop μ-loop
 add-put-word c =
     omega (arith, c .before .before .loop .inv .within)
 
-mul-bytes-from : tie.Need-mul-bytes-from Inv-loop μ-loop
-mul-bytes-from c =
+mul-word-at : tie.Need-mul-word-at Inv-loop μ-loop
+mul-word-at c =
     omega (arith, c .before .before .loop .inv .within)
 
-add-bytes-from : tie.Need-add-bytes-from Inv-loop μ-loop
-add-bytes-from c =
+add-word-at : tie.Need-add-word-at Inv-loop μ-loop
+add-word-at c =
     omega (arith, c .before .before .loop .inv .within)
 
-add-bytes-from-2 : tie.Need-add-bytes-from-2 Inv-loop μ-loop
-add-bytes-from-2 c =
+add-word-at-2 : tie.Need-add-word-at-2 Inv-loop μ-loop
+add-word-at-2 c =
     omega (arith, c .before .before .loop .inv .within)
 
-bytes-from-requires : tie.Need-bytes-from-requires Inv-loop μ-loop
-bytes-from-requires c κs =
-    search needs
-
-object-at-requires : tie.Need-object-at-requires Inv-loop μ-loop
-object-at-requires c κs =
+word-at-requires : tie.Need-word-at-requires Inv-loop μ-loop
+word-at-requires c κs =
     search needs
 
 put-word-requires : tie.Need-put-word-requires Inv-loop μ-loop
@@ -60,7 +52,7 @@ loop-less c =
 
 loop-again : tie.Need-loop-again Inv-loop μ-loop
 loop-again c =
-    words-next _ _ _ _ _ _ _ (c .before .before .before .before .before .before .before .loop .inv) (c .before .before .before .before .before .before .loop-test .taken) _ (c .before .before .before .object-at .ensures ∙ ap (λ (b : List ℕ). getD (objectsOf b) 0 0) (c .before .before .before .before .bytes-from .ensures)) _ (c .before .before .put-word .ensures)
+    words-next _ _ _ _ _ _ _ (c .before .before .before .before .before .before .loop .inv) (c .before .before .before .before .before .loop-test .taken) _ (c .before .before .before .word-at .ensures) _ (c .before .before .put-word .ensures)
 
 same-length : tie.Need-same-length Inv-loop μ-loop
 same-length c =
@@ -78,11 +70,10 @@ put-words-spec =
     μ-loop
     loop-holds
     add-put-word
-    mul-bytes-from
-    add-bytes-from
-    add-bytes-from-2
-    bytes-from-requires
-    object-at-requires
+    mul-word-at
+    add-word-at
+    add-word-at-2
+    word-at-requires
     put-word-requires
     add-i
     loop-less

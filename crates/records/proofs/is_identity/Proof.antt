@@ -1,8 +1,8 @@
 -- `is_identity` meets its promise.
 use borrow.Author.Tests.{lt-leb, le-leb}
 use Rattle.records.specs.Records.{isIdentity}
-use Rattle.records.proofs.kinds.is_identity.Statement.{statement}
-use Rattle.records.proofs.kinds.is_identity.Tie as tie
+use Rattle.records.proofs.is_identity.Statement.{statement}
+use Rattle.records.proofs.is_identity.Tie as tie
 
 returns : tie.Need-returns
 unfolding isIdentity

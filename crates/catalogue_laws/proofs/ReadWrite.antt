@@ -26,7 +26,7 @@ module _ (before behind : List ℕ) (svid : ℕ) (sound : soundList (before ++ s
       sound-no-zero (before ++ svid ∷ behind) sound (length before) (omega (arith, length-append before (svid ∷ behind)))
       (getD-append-seam before svid behind 0 ∙ none)
 
-  sound-new : isIn svid before ≡ false
+  pub sound-new : isIn svid before ≡ false
   sound-new = go (isIn svid before) refl
     where
       go : (t : Bool) → isIn svid before ≡ t → t ≡ false

@@ -12,7 +12,7 @@ use Rattle.messages.specs.Reading.{accepted, readOutcome}
 use Rattle.messages.specs.Writing.{wellShaped, Written}
 use Rattle.messages.proofs.Laws.{write-read}
 use Rattle.messages.proofs.RoundTrip.{read-bytes}
-use Rattle.pages.specs.Lists.{soundList}
+use Rattle.pages.specs.Lists.{isIn, soundList}
 use Rattle.pages.specs.Pages.{halves, page, isLast, remaining, readOff, pages, readPages}
 use Rattle.taking.specs.Taking.{verdict}
 use Rattle.taking.specs.Words.{RepeatPage, BadPage}
@@ -43,9 +43,29 @@ use Rattle.dock_laws.specs.Effects.{Call as Dock·Call}
 use Rattle.dock_laws.specs.Effects.{effectOf as Dock·effectOf}
 use Rattle.dock_laws.specs.Given.{Given as Dock·Given}
 use Rattle.dock_laws.proofs.Given.{given-exactly as Dock·given-exactly}
-use Rattle.catalogue.specs.Bytes.{HeldCatalogue, CatalogueWritten}
+use Rattle.catalogue.specs.Bytes.{catalogueBytes, HeldCatalogue, holding, heldCatalogue, CatalogueWritten}
 use Rattle.catalogue.specs.declared.Bytes.{Bytes}
 use Rattle.catalogue.proofs.Laws.{refused-leaves}
+use Rattle.laptop.specs.Catalogue.{Catalogue, catalogueIn}
+use Rattle.records.specs.declared.Record.{Record}
+use Rattle.judging.specs.Judging.{judgement, judgementOf}
+use Rattle.judging.specs.Walking.{svidsOf, walkOf, mayFollow}
+use Rattle.catalogue_laws.specs.Given.{Given as File·Given}
+use Rattle.catalogue_laws.specs.Within.{Within}
+use Rattle.catalogue_laws.specs.Words.{Wrong}
+use Rattle.catalogue_laws.proofs.Beginnings.{beginning-cut}
+use Rattle.catalogue_laws.proofs.Given.{given-exactly as File·given-exactly}
+use Rattle.catalogue_laws.proofs.Limits.{accepted-within}
+use Rattle.catalogue_laws.proofs.ReadWrite.{read-write}
+use Rattle.catalogue_laws.proofs.Words.{wrong-exactly}
+use Rattle.catalogue_laws.proofs.WriteRead.{write-read as Catalogue·write-read}
+use Rattle.rebuilding.specs.Rebuilding.{Arrays, CatalogueRead}
+use Rattle.rebuilding.specs.declared.Rebuilt.{Rebuilt}
+use Rattle.rebuilding.proofs.Holding.{read-holds}
+use Rattle.rebuilding.proofs.Laws.{refused-leaves as Reading·refused-leaves}
+use Rattle.stretches.specs.Stretches.{stretchIn}
+use Rattle.stretches.proofs.Laws.{not-listed-exactly}
+use Rattle.demands.proofs.HeldWithin.{Wide, held-within, held-reads}
 use Rattle.link.specs.Cases.{cases, caseL, given, said}
 use Rattle.link.specs.Demand.{Meets, AtRest, Begins, apart, OldOrWhole, Lowers, Replaces, Counts, Completes, Raises, EndsBy, NeverBad, RequestTaken}
 use Rattle.link.specs.Exchanges.{HasAll, LossFree, NoDeadEnd, NextAsks}
@@ -134,6 +154,52 @@ every-run = runs-hold
 -- The link permits what that section grants, in every state: losses, late answers, BUSY, early and late confirmations, for every list and every SVID.
 pub link-permits : (modesOf : ℕ → List ℕ) (s : System) → Permits modesOf s
 link-permits = permits
+
+-- THE CATALOGUE READ BACK (02, R-1). What the writer wrote for a catalogue within 01's limits reads as that catalogue,
+pub read-what-the-writer-wrote : (c : Catalogue) → Within c → judgementOf (catalogueBytes c) ≡ judgement 0 (length (catalogueBytes c)) c
+read-what-the-writer-wrote = read-write
+
+-- every catalogue that a well-formed laptop holds is within them, so that each that is ever held is; what is written of it reads as it,
+pub held-is-within : (l : Laptop) (m : Memory) → WellFormed l m → length (m .heldIdentity) ≡ 6 → Wide m → (c : Catalogue) →
+    heldCatalogue (l .held) (m .heldIdentity) (m .heldSvids) (m .heldModes) (m .heldRun) ≡ holding c → Within c
+held-is-within = held-within
+
+pub held-reads-back : (l : Laptop) (m : Memory) → WellFormed l m → length (m .heldIdentity) ≡ 6 → Wide m → (c : Catalogue) →
+    heldCatalogue (l .held) (m .heldIdentity) (m .heldSvids) (m .heldModes) (m .heldRun) ≡ holding c → (out : List ℕ) (result : Bytes) (after : List ℕ) →
+    CatalogueWritten (heldCatalogue (l .held) (m .heldIdentity) (m .heldSvids) (m .heldModes) (m .heldRun)) (length (m .heldRun)) out result after →
+    result .refusal ≡ 0 → judgementOf (take (result .length) after) ≡ judgement 0 (result .length) c
+held-reads-back = held-reads
+
+-- and accepted bytes, written again, are the same bytes, of a catalogue within them.
+pub write-what-was-accepted : (bytes : List ℕ) → Below 256 bytes → judgementOf bytes .refusal ≡ 0 →
+    (catalogueBytes (judgementOf bytes .catalogue) ≡ bytes) × Within (judgementOf bytes .catalogue)
+write-what-was-accepted bytes b none = (Catalogue·write-read bytes b none, accepted-within bytes b none)
+
+-- Each of 15 to 18 is given exactly when 02 says, at the record that it says; 17 for its reasons alone;
+pub file-given-exactly : (bytes : List ℕ) (number at : ℕ) (c : Catalogue) → (judgementOf bytes ≡ judgement number at c) ↔ File·Given bytes number at c
+file-given-exactly = File·given-exactly
+
+pub out-of-order-exactly : (at : ℕ) (c : Catalogue) (r : Record) → (mayFollow (walkOf at c) (svidsOf (c .entries)) r ≡ false) ↔ Wrong c r
+out-of-order-exactly = wrong-exactly
+
+-- every beginning of a sound file is 16.
+pub beginnings-are-cut : (bytes : List ℕ) → judgementOf bytes .refusal ≡ 0 → (k : ℕ) → k < length bytes → judgementOf (take k bytes) .refusal ≡ 16
+beginnings-are-cut = beginning-cut
+
+-- A refusal changes no lent word; what is accepted stands in what was lent, as the laptop's definitions read it;
+pub reading-refusal-leaves : (bytes : List ℕ) (before : Arrays) (result : Rebuilt) (after : Arrays) → CatalogueRead bytes before result after →
+    (result .refusal ≡ 0 → ⊥) → after ≡ before
+reading-refusal-leaves = Reading·refused-leaves
+
+pub reading-rebuilds : (bytes : List ℕ) → Below 256 bytes → (before : Arrays) (result : Rebuilt) (after : Arrays) → CatalogueRead bytes before result after →
+    result .refusal ≡ 0 →
+    catalogueIn (record { extent = result .extent; count = result .count }) (after .identity) (after .svids) (after .numbers) (after .run) ≡ judgementOf bytes .catalogue
+reading-rebuilds = read-holds
+
+-- and 12 says that the file is sound and the SVID is not in it.
+pub twelve-exactly : (bytes : List ℕ) (svid : ℕ) →
+    (stretchIn (judgementOf bytes) svid .refusal ≡ 12) ↔ ((judgementOf bytes .refusal ≡ 0) × (isIn svid (svidsOf (judgementOf bytes .catalogue .entries)) ≡ false))
+twelve-exactly = not-listed-exactly
 
 -- DEMAND 3. It begins when, of a laptop and a dock at rest, a call sends Discover Identity.
 pub begins : (modesOf : ℕ → List ℕ) (s : System) → AtRest s → (out : List ℕ) (c : Call) →

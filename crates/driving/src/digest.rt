@@ -29,6 +29,22 @@ pub fn of_bytes(bytes: &[u8]) -> u32 {
     of_more(OFFSET, bytes)
 }
 
+fn of_half(digest: u32, half: u16) -> u32 {
+    let digest = of_byte(digest, (half % 256) as u8);
+    of_byte(digest, (half / 256) as u8)
+}
+
+// Of the halves' bytes, low byte first.
+pub fn of_halves(halves: &[u16]) -> u32 {
+    let mut digest = OFFSET;
+    let mut index = 0;
+    while index < halves.len() {
+        digest = of_half(digest, halves[index]);
+        index += 1;
+    }
+    digest
+}
+
 // Of the words' bytes, low byte first.
 pub fn of_words(words: &[u32]) -> u32 {
     let mut digest = OFFSET;

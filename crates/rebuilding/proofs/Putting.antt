@@ -127,7 +127,7 @@ words-of bytes at (word ∷ modes) rest b e =
     object-size : (w : ℕ) → length (modeKind ∷ bytesOfObject w) ≡ 5
     object-size w = refl
 
-each-at : (P : Entry → Type 0) (entries : List Entry) (i : ℕ) → Each P entries → i < length entries → P (entryAt entries i)
+pub each-at : (P : Entry → Type 0) (entries : List Entry) (i : ℕ) → Each P entries → i < length entries → P (entryAt entries i)
 each-at P [] i each h = absurd (omega arith)
 each-at P (entry ∷ entries) zero each h = each .0
 each-at P (entry ∷ entries) (suc i) each h = each-at P entries i (each .1) (omega arith)

@@ -52,6 +52,14 @@ pub fn first_bytes(bytes: &[u8], count: usize) -> &[u8] {
     bytes
 }
 
+// So many bytes from a place on, or as many as there are.
+pub fn bytes_from(bytes: &[u8], start: usize, count: usize) -> &[u8] {
+    if start <= bytes.len() {
+        return first_bytes(&bytes[start..], count);
+    }
+    first_bytes(bytes, 0)
+}
+
 // As `fill`, with two bytes for each half. Each is read by itself, since no buffer of bytes has room
 // for any number of them.
 pub fn fill_halves(halves: &mut [u16]) -> bool {

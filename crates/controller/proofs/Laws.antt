@@ -1,5 +1,5 @@
 -- What holds of the numbers that a caller lends, by the promises of the calls.
-use mathlib.Core.Path.{_≡_, sym, _∙_}
+use mathlib.Core.Path.{_≡_, refl, sym, _∙_}
 use mathlib.Core.List.{List, []}
 use Prim.Native.Nat.{ℕ}
 use lib.ListN.{length, replicate}
@@ -17,6 +17,8 @@ use Rattle.owner.specs.Owner.{decideNext, decideStartOver, decideDrop, decideEn
 use Rattle.timers.specs.Timers.{decideTimer, decideError}
 use Rattle.laptop_laws.specs.Effects.{message, next, startOver, drop, enter, exit, timer, protocolError}
 use Rattle.controller.specs.CatalogueCall.{CatalogueCall}
+use Rattle.controller.specs.CatalogueReading.{arraysOf, readOf, ReadCall, placeOf, StretchCall}
+use Rattle.rebuilding.proofs.Laws.{refused-leaves}
 use Rattle.controller.specs.Dock.{dockFrom, dockNumbers}
 use Rattle.controller.specs.DockCalls.{DockSendsNothing, DockSends, DockLoads}
 use Rattle.controller.specs.Laptop.{laptopFrom, laptopNumbers, numbersAfter}
@@ -109,6 +111,19 @@ pub catalogue-refusal : {held : HeldCatalogue} {run : List ℕ} {number : ℕ} {
     CatalogueCall held run number out bytes → (left bytes ≡ lent bytes) × (left out ≡ lent out)
 catalogue-refusal refused p = (refused-kept _ refused (p .bytes-is), catalogue-left p refused)
 
+-- a refusal of reading leaves the sizes, the arrays and the run, and one of finding a stretch the length
+pub catalogue-read-refusal : {bytes : List ℕ} {result : ℕ} {svids modes identity run sizes : Lent (List ℕ)} → (readOf bytes (lent run) .refusal ≡ 0 → ⊥) →
+    ReadCall bytes result svids modes identity run sizes →
+    (left sizes ≡ lent sizes) × (arraysOf (left svids) (left modes) (left identity) (left run) ≡ arraysOf (lent svids) (lent modes) (lent identity) (lent run))
+catalogue-read-refusal {bytes} {run = run} refused p = (
+  refused-kept _ refused (p .sizes-are),
+  refused-leaves bytes _ (readOf bytes (lent run)) _ (record { result-is = refl; arrays-are = p .arrays-are }) refused,
+)
+
+pub catalogue-stretch-refusal : {bytes : List ℕ} {svid result : ℕ} {found : Lent ℕ} → (placeOf bytes svid .refusal ≡ 0 → ⊥) → StretchCall bytes svid result found →
+    left found ≡ lent found
+catalogue-stretch-refusal refused p = refused-kept _ refused (p .length-is)
+
 -- of two results that a promise allows of one call, lent the same, all that is returned and left is the same
 module _ {decide : Dock → Decision} {number number′ : ℕ} {state identity svids : Lent (List ℕ)} {bytes : Lent ℕ} {state′ : RefT (List ℕ)}
     {bytes′ : RefT ℕ} where
@@ -153,6 +168,16 @@ pub catalogue-only : {held : HeldCatalogue} {run : List ℕ} {number number′ :
 catalogue-only {bytes = bytes} p p′ =
     let same = p .number-is ∙ sym (p′ .number-is) in
     (same, accepted-only _ (lent bytes) same (p .bytes-is) (p′ .bytes-is), p .buffer-is ∙ sym (p′ .buffer-is))
+
+pub catalogue-read-only : {bytes : List ℕ} {result result′ : ℕ} {svids modes identity run sizes : Lent (List ℕ)} {svids′ modes′ identity′ run′ sizes′ : RefT (List ℕ)} →
+    ReadCall bytes result svids modes identity run sizes →
+    ReadCall bytes result′ (leaving svids svids′) (leaving modes modes′) (leaving identity identity′) (leaving run run′) (leaving sizes sizes′) →
+    (result ≡ result′) × (left sizes ≡ now sizes′) × (arraysOf (left svids) (left modes) (left identity) (left run) ≡ arraysOf (now svids′) (now modes′) (now identity′) (now run′))
+catalogue-read-only p p′ = (p .result-is ∙ sym (p′ .result-is), p .sizes-are ∙ sym (p′ .sizes-are), p .arrays-are ∙ sym (p′ .arrays-are))
+
+pub catalogue-stretch-only : {bytes : List ℕ} {svid result result′ : ℕ} {found : Lent ℕ} {found′ : RefT ℕ} → StretchCall bytes svid result found →
+    StretchCall bytes svid result′ (leaving found found′) → (result ≡ result′) × (left found ≡ now found′)
+catalogue-stretch-only p p′ = (p .result-is ∙ sym (p′ .result-is), p .length-is ∙ sym (p′ .length-is))
 
 -- a fresh dock, a fresh laptop, and the report
 pub dock-fresh-only : {state identity svids state′ identity′ svids′ : List ℕ} →

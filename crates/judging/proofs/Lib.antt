@@ -4,5 +4,6 @@ pub mod Entries
 pub mod Following
 pub mod Noted
 pub mod Places
+pub mod Tight
 pub mod Underway
 pub mod Walks

@@ -1,5 +1,5 @@
 -- A file that is accepted ends with its end record, behind the records that its catalogue is made of.
-use mathlib.Core.Path.{_≡_, refl, ap, sym, _∙_}
+use mathlib.Core.Path.{_≡_, refl}
 use mathlib.Core.List.{List}
 use Prim.Native.Nat.{ℕ, _+_}
 use native.Mathlib.Omega.{arith}
@@ -8,7 +8,7 @@ use Rattle.laptop.specs.Catalogue.{Catalogue}
 use Rattle.records.specs.Records.{foundIn}
 use Rattle.records.specs.declared.Found.the-variants.{Whole}
 use Rattle.records.specs.declared.Record.the-variants.{End}
-use Rattle.judging.specs.Judging.{Judgement, judgement, judgementOf}
+use Rattle.judging.specs.Judging.{Judgement, judgementOf}
 use Rattle.catalogue_laws.specs.Given.{Passed, Given}
 use Rattle.catalogue_laws.specs.Given.Given.{unknown, cut, wrong, behind-end, sound}
 use Rattle.catalogue_laws.specs.Words.{Wrong}

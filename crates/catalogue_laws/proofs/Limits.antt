@@ -5,7 +5,7 @@ use mathlib.Core.Bool.{Bool, true, false}
 use mathlib.Core.List.{List, [], _∷_, _++_}
 use Prim.Native.Nat.{ℕ, zero, suc, _+_, _*_, _^_, _<_, _≤_}
 use native.Mathlib.Omega.{arith}
-use lib.ListN.{length, getD, take, drop, length-append, length-take}
+use lib.ListN.{length, take, drop, length-append, length-take}
 use borrow.Author.Tests.{eq-eqb}
 use Rattle.laws.specs.Bounded.{Below}
 use Rattle.messages.specs.Layout.{objectsOf}
@@ -27,7 +27,7 @@ use Rattle.judging.proofs.Following.{listed-as, added-under, ended-closed, bare
 use Rattle.catalogue_laws.specs.Within.{OneToSix, Within}
 use Rattle.catalogue_laws.specs.Given.{Passed}
 use Rattle.catalogue_laws.specs.Given.Passed.{front, behind}
-use Rattle.catalogue_laws.proofs.Accepted.{Ended, accepted-ended}
+use Rattle.catalogue_laws.proofs.Accepted.{accepted-ended}
 use Rattle.catalogue_laws.proofs.Words.{right-exactly}
 use Rattle.catalogue_laws.proofs.Below.{take-below, drop-below}
 use Rattle.catalogue_laws.proofs.Behind.{each-behind, each-before, sound-behind}

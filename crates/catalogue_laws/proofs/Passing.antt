@@ -2,10 +2,10 @@
 use mathlib.Core.Path.{_≡_, refl, ap, ap₂, sym, _∙_}
 use mathlib.Core.Bool.{Bool, true, false}
 use mathlib.Core.List.{List, [], _∷_, _++_, append-assoc, append-nil}
-use Prim.Native.Nat.{ℕ, zero, suc, _+_, _*_, _%_, _<_, _≤_}
+use Prim.Native.Nat.{ℕ, zero, suc, _+_, _*_, _<_, _≤_}
 use native.Mathlib.Omega.{arith}
-use lib.ListN.{length, getD, take, drop, length-append, length-take}
-use lib.Seq.{getD-take, take-all, length-take-le}
+use lib.ListN.{length, take, length-take}
+use lib.Seq.{length-take-le}
 use borrow.Author.Tests.{eqb-true}
 use Rattle.laws.specs.Bounded.{Below}
 use Rattle.messages.specs.Layout.{objectOf, objectsOf, bytesOf}
@@ -15,7 +15,7 @@ use Rattle.catalogue.specs.Bytes.{svidKind, modeKind, svidBytes, modeBytes, mod
 use Rattle.records.specs.Records.{bodyLength, svidIn, modeIn, foundIn}
 use Rattle.records.specs.declared.Found.the-variants.{Whole}
 use Rattle.records.specs.declared.Record.{Record}
-use Rattle.records.specs.declared.Record.the-variants.{Identity, Svid, Mode, End}
+use Rattle.records.specs.declared.Record.the-variants.{Identity, Svid, Mode}
 use Rattle.records.proofs.Laws.{IsWhole, whole, Told, told}
 use Rattle.records.proofs.Laws.Told.{identity, svid, mode, end}
 use Rattle.records.proofs.Bodies.{identity-bounds}

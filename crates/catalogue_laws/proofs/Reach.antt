@@ -1,5 +1,4 @@
 -- How far the records that a walk has passed reach.
-use mathlib.Core.Logic.{_⊎_}
 use mathlib.Core.Path.{_≡_, refl}
 use mathlib.Core.List.{List}
 use Prim.Native.Nat.{ℕ, _+_, _*_, _≤_}
@@ -14,7 +13,7 @@ use Rattle.records.specs.declared.Record.the-variants.{End}
 use Rattle.catalogue_laws.specs.Given.{Passed, Given}
 use Rattle.catalogue_laws.specs.Given.Passed.{front, behind}
 use Rattle.catalogue_laws.specs.Given.Given.{unknown, cut, wrong, behind-end, sound}
-use Rattle.catalogue_laws.proofs.Accepted.{Ended, accepted-ended}
+use Rattle.catalogue_laws.proofs.Accepted.{accepted-ended}
 use Rattle.catalogue_laws.proofs.Given.{given-exactly}
 use Rattle.catalogue_laws.proofs.Sized.{Sized, sized-on, sized-front}
 use Rattle.catalogue_laws.proofs.Words.{right-exactly}

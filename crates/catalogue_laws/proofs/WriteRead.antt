@@ -8,7 +8,7 @@ use lib.Seq.{take-add}
 use Rattle.laws.specs.Bounded.{Below}
 use Rattle.laptop.specs.Catalogue.{Catalogue}
 use Rattle.catalogue.specs.Bytes.{endKind, entriesBytes, catalogueBytes}
-use Rattle.records.specs.Records.{foundIn, bodyLength}
+use Rattle.records.specs.Records.{foundIn}
 use Rattle.records.specs.declared.Found.the-variants.{Whole}
 use Rattle.records.specs.declared.Record.{Record}
 use Rattle.records.specs.declared.Record.the-variants.{Identity, Svid, Mode, End}
@@ -19,9 +19,9 @@ use Rattle.judging.specs.Walking.{svidsOf, walkOf}
 use Rattle.judging.proofs.Following.{ended-closed}
 use Rattle.catalogue_laws.specs.Given.{Passed}
 use Rattle.catalogue_laws.specs.Given.Passed.{front, behind}
-use Rattle.catalogue_laws.proofs.Accepted.{Ended, accepted-ended}
+use Rattle.catalogue_laws.proofs.Accepted.{accepted-ended}
 use Rattle.catalogue_laws.proofs.Below.{drop-below}
-use Rattle.catalogue_laws.proofs.Passing.{passedBytes, Begun, PassedMore, passed-more}
+use Rattle.catalogue_laws.proofs.Passing.{passedBytes, Begun, passed-more}
 use Rattle.catalogue_laws.proofs.Words.{right-exactly}
 
 -- what was passed is the front of the bytes

@@ -1,7 +1,7 @@
 -- When each number is given, and at which record (02, R-1): the first fault from the front is named, and at one record 15 comes before 16 and 16 before 17.
 use mathlib.Core.Logic.{_⊎_}
 use mathlib.Core.Path.{_≡_}
-use mathlib.Core.Bool.{true, false}
+use mathlib.Core.Bool.{false}
 use mathlib.Core.List.{List}
 use Prim.Native.Nat.{ℕ, _+_, _<_}
 use lib.ListN.{length, drop}

@@ -1,6 +1,5 @@
 -- 17 in 02's words: wrong order, repeated item or limit passed.
 use mathlib.Core.Path.{_≡_}
-use mathlib.Core.List.{[]}
 use Prim.Native.Nat.{ℕ, _<_, _≤_}
 use lib.ListN.{length}
 use Rattle.pages.specs.Lists.{mostSvids}

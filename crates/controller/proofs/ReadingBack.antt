@@ -1,21 +1,18 @@
 -- What reading a catalogue and finding a stretch hand over.
-use mathlib.Core.Path.{_≡_, ap, sym, _∙_}
+use mathlib.Core.Path.{_≡_, ap, _∙_}
 use mathlib.Core.List.{List}
 use Prim.Native.Nat.{ℕ, _+_, _≤_}
 use native.Mathlib.Omega.{arith}
 use lib.ListN.{length}
-use denote.Ref.{RefT, now}
-use Rattle.laws.specs.Lent.{Lent, lent, left, leaving, accepted}
+use Rattle.laws.specs.Lent.{Lent, lent, left, accepted}
 use Rattle.catalogue.specs.Bytes.{mostBytes}
-use Rattle.judging.specs.Judging.{judgementOf}
 use Rattle.catalogue_laws.proofs.Bounds.{place-most}
 use Rattle.rebuilding.specs.Rebuilding.{Arrays, CatalogueRead, Small}
 use Rattle.rebuilding.specs.declared.Rebuilt.{Rebuilt}
 use Rattle.rebuilding.proofs.Laws.{read-small}
-use Rattle.stretches.specs.Stretches.{stretchIn}
 use Rattle.stretches.specs.declared.Place.{Place}
 use Rattle.stretches.proofs.Fitting.{stretch-end}
-use Rattle.controller.specs.CatalogueReading.{withOffset, sizesOf, arraysOf, readOf, ReadCall, placeOf, StretchCall}
+use Rattle.controller.specs.CatalogueReading.{withOffset, sizesOf, arraysOf, ReadCall, placeOf, StretchCall}
 use Rattle.controller.proofs.Accepting.{accepted-written, accepted-kept}
 
 pub small : {bytes : List ℕ} {before after : Arrays} {read : Rebuilt} → CatalogueRead bytes before read after → Small read

@@ -1,5 +1,5 @@
 -- Which record may follow a walk, by the tests that lead there.
-use mathlib.Core.Path.{_≡_, refl, sym, _∙_, ap}
+use mathlib.Core.Path.{_≡_, refl}
 use mathlib.Core.Bool.{Bool, true, false, not, _&&_}
 use mathlib.Core.List.{List}
 use Prim.Native.Nat.{ℕ, _<_, _≤_}
@@ -9,7 +9,7 @@ use borrow.Author.Tests.{lt-ltb, le-ltb, eq-eqb, ne-eqb, ltb-true, eqb-false, no
 use Rattle.laws.proofs.Lines.{and-left, and-right}
 use Rattle.pages.specs.Lists.{mostSvids, isIn}
 use Rattle.laptop.specs.Catalogue.{modesEach}
-use Rattle.records.specs.declared.Record.the-variants.{Identity, Svid, Mode, End}
+use Rattle.records.specs.declared.Record.the-variants.{Svid, Mode, End}
 use Rattle.judging.specs.Walking.{isBare, mayFollow}
 use Rattle.judging.specs.declared.walk.Walk.{Walk}
 

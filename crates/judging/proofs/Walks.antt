@@ -2,10 +2,10 @@
 use mathlib.Core.Path.{_≡_, refl, ap, ap₂, sym, _∙_}
 use mathlib.Core.Bool.{true}
 use mathlib.Core.List.{List, [], _∷_, _++_}
-use Prim.Native.Nat.{ℕ, suc, _+_, _*_, _-_, _<_, _≤_}
+use Prim.Native.Nat.{ℕ, _+_, _*_, _-_, _≤_}
 use native.Mathlib.Omega.{arith}
-use lib.ListN.{length, take, set, replicate, length-append, length-take}
-use lib.Seq.{sets, set-set}
+use lib.ListN.{length, set, replicate, length-append, length-take}
+use lib.Seq.{set-set}
 use Rattle.laws.proofs.Stores.{sets-append}
 use Rattle.messages.specs.Layout.{objectsOf}
 use Rattle.messages.proofs.Objects.{length-objects}

@@ -2,7 +2,7 @@
 use Prim.Native.Nat.{ℕ, zero, suc, _+_, _%_, _/_}
 use mathlib.Core.List.{List, [], _∷_, _++_}
 use lib.ListN.{take, replicate}
-use Rattle.judging.specs.Judging.{Judgement, judgementOf}
+use Rattle.judging.specs.Judging.{judgementOf}
 
 -- records, by their bytes
 abbrev identity : List ℕ

@@ -3,7 +3,7 @@ ghost use mathlib.Core.Path.{_≡_};
 ghost use mathlib.Core.Bool.{true};
 ghost use mathlib.Core.List.{List};
 ghost use Prim.Native.Nat.{ℕ, _+_, _-_, _<_, _≤_, _^_};
-ghost use lib.ListN.{take, set};
+ghost use lib.ListN.{set};
 ghost use Rattle.judging.specs.Noting.{walkBehind, svidsNoted, numbersNoted};
 ghost use Rattle.judging.specs.Walking.{mayFollow};
 use crate::walk::Walk;

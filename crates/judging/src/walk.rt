@@ -1,8 +1,8 @@
 // Where a walk over the records stands, what it has passed, and which record may follow.
 ghost use mathlib.Core.Path.{_≡_};
-ghost use Prim.Native.Nat.{ℕ, _+_, _-_, _<_, _≤_, _^_};
+ghost use Prim.Native.Nat.{ℕ, _-_, _<_};
 ghost use mathlib.Core.List.{List};
-ghost use lib.ListN.{length, take, set};
+ghost use lib.ListN.{take};
 ghost use Rattle.judging.specs.Walking.{isBare, mayFollow};
 use laptop::MODES_EACH;
 use pages::MOST_SVIDS;

@@ -1,11 +1,11 @@
 -- What was rebuilt stands for the catalogue, as the laptop's definitions read such arrays.
 use mathlib.Core.Path.{_≡_, refl, ap, ap₂, sym, _∙_}
-use mathlib.Core.Bool.{Bool, true, false, cond}
+use mathlib.Core.Bool.{Bool, true, false}
 use mathlib.Core.List.{List, [], _∷_}
-use Prim.Native.Nat.{ℕ, zero, suc, _+_, _*_, _<_, _≤_}
+use Prim.Native.Nat.{ℕ, suc, _+_, _<_, _≤_}
 use native.Mathlib.Nat.{add-zero, zero-add}
 use native.Mathlib.Omega.{arith}
-use lib.Dec.{ltb, leb, eqb}
+use lib.Dec.{ltb, eqb}
 use lib.ListN.{length, take, drop, replicate, length-replicate}
 use lib.Seq.{take-at}
 use borrow.Author.Tests.{ltb-false, le-ltb, le-leb, eqb-true, eqb-false}
@@ -15,14 +15,14 @@ use Rattle.laws.proofs.Stores.{sets-front}
 use Rattle.pages.specs.Lists.{mostSvids}
 use Rattle.laptop.specs.Catalogue.{Entry, Catalogue, modesEach, runWords, modesNumber, modesAt, entriesFrom, catalogueIn}
 use Rattle.catalogue.specs.Bytes.{catalogueBytes, Each, SixModes}
-use Rattle.judging.specs.Judging.{Judgement, judgement, judgementOf, noted}
+use Rattle.judging.specs.Judging.{Judgement, judgementOf, noted}
 use Rattle.judging.specs.Walking.{svidsOf, numbersOf}
 use Rattle.judging.proofs.Entries.{length-svids}
 use Rattle.judging.proofs.Places.{entryAt, number-noted}
 use Rattle.catalogue_laws.specs.Within.{OneToSix, Within}
 use Rattle.catalogue_laws.proofs.Limits.{accepted-within}
 use Rattle.catalogue_laws.proofs.ReadWrite.{read-write}
-use Rattle.rebuilding.specs.Rebuilding.{Arrays, modesInto, rebuilt, shortRun, acceptedAs, readAs, readInto, CatalogueRead}
+use Rattle.rebuilding.specs.Rebuilding.{Arrays, modesInto, rebuilt, acceptedAs, readAs, readInto, CatalogueRead}
 use Rattle.rebuilding.specs.declared.Rebuilt.{Rebuilt}
 use Rattle.rebuilding.proofs.Filling.{modes-there}
 use Rattle.rebuilding.proofs.Putting.{each-at}

@@ -1,10 +1,8 @@
 -- The ways out of reading a catalogue.
-use mathlib.Core.Path.{_≡_, refl, ap, ap₂, sym, _∙_}
-use mathlib.Core.Bool.{Bool, true, false, cond}
+use mathlib.Core.Path.{_≡_, ap, ap₂, sym, _∙_}
 use mathlib.Core.List.{List, [], _∷_, _++_, append-assoc}
 use Prim.Native.Nat.{ℕ, _+_, _*_, _<_, _≤_}
 use native.Mathlib.Omega.{arith}
-use lib.Dec.{ltb, eqb}
 use lib.ListN.{length, take, drop}
 use lib.Seq.{drop-at}
 use borrow.Author.Tests.{lt-ltb, le-ltb, eq-eqb, ne-eqb}
@@ -23,7 +21,7 @@ use Rattle.catalogue_laws.proofs.Limits.{accepted-within}
 use Rattle.catalogue_laws.proofs.Reading.{objects-again}
 use Rattle.catalogue_laws.proofs.WriteRead.{write-read}
 use Rattle.rebuilding.specs.Putting.{Standing}
-use Rattle.rebuilding.specs.Rebuilding.{Arrays, modesInto, rebuilt, shortRun, refusedAt, acceptedAs, readAs, readInto, CatalogueRead}
+use Rattle.rebuilding.specs.Rebuilding.{Arrays, modesInto, rebuilt, shortRun, refusedAt, readAs, readInto, CatalogueRead}
 use Rattle.rebuilding.specs.declared.Rebuilt.{Rebuilt}
 
 -- a catalogue's bytes, behind the kind of its identity and behind its objects

@@ -9,7 +9,7 @@ use lib.Seq.{sets, getD-take, length-sets, drop-drop, drop-at}
 use Rattle.laws.specs.Bounded.{Below}
 use Rattle.laws.specs.Padded.{padded}
 use Rattle.laws.proofs.Padded.{padded-at}
-use Rattle.messages.specs.Layout.{bytesOfObject, objectOf, objectsOf, bytesOf}
+use Rattle.messages.specs.Layout.{bytesOfObject, objectsOf, bytesOf}
 use Rattle.messages.proofs.Objects.{objects-bytes}
 use Rattle.laptop.specs.Catalogue.{Entry, modesEach}
 use Rattle.catalogue.specs.Bytes.{modeKind, endKind, svidBytes, modeBytes, modesBytes, entryBytes, entriesBytes, Each, EntryFits}

@@ -1,8 +1,8 @@
 // The words of a sound file: its identity objects, and the modes of each SVID, put at their places of a run.
 ghost use mathlib.Core.Path.{_≡_};
-ghost use Prim.Native.Nat.{ℕ, _+_, _*_, _<_, _≤_};
+ghost use Prim.Native.Nat.{_+_, _*_, _<_, _≤_};
 ghost use mathlib.Core.List.{List};
-ghost use lib.ListN.{length, take, drop, getD, set};
+ghost use lib.ListN.{take, drop, getD, set};
 ghost use lib.Seq.{sets};
 ghost use Rattle.laws.specs.Padded.{padded};
 ghost use Rattle.messages.specs.Layout.{objectsOf};

@@ -1,9 +1,8 @@
 -- What a kind fixes: whether it is known, the length of its body, its record.
-use mathlib.Core.Path.{_≡_, refl}
-use mathlib.Core.Bool.{Bool, true, false, cond}
+use mathlib.Core.Path.{_≡_}
+use mathlib.Core.Bool.{true, false}
 use mathlib.Core.List.{List}
-use Prim.Native.Nat.{ℕ, _*_, _<_, _≤_}
-use native.Mathlib.Omega.{arith}
+use Prim.Native.Nat.{ℕ, _*_, _≤_}
 use lib.Dec.{leb, eqb}
 use borrow.Author.Tests.{ne-eqb, eq-eqb, leb-true}
 use Rattle.laws.proofs.Lines.{and-left, and-right}
@@ -18,14 +17,6 @@ module _ (kind : ℕ) where
   pub known-identity : isIdentity kind ≡ true → isKnown kind ≡ true
   unfolding isKnown
   known-identity e = simp e
-
-  pub known-svid : isIdentity kind ≡ false → kind ≡ 16 → isKnown kind ≡ true
-  unfolding isKnown
-  known-svid e h = simp (e, eq-eqb kind 16 h)
-
-  pub known-mode : isIdentity kind ≡ false → (kind ≡ 16 → ⊥) → kind ≡ 32 → isKnown kind ≡ true
-  unfolding isKnown
-  known-mode e n h = simp (e, ne-eqb kind 16 n, eq-eqb kind 32 h)
 
   pub known-other : isIdentity kind ≡ false → (kind ≡ 16 → ⊥) → (kind ≡ 32 → ⊥) → isKnown kind ≡ eqb kind 0
   unfolding isKnown

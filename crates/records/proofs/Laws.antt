@@ -2,16 +2,15 @@
 use mathlib.Core.Path.{_≡_, refl, ap, sym, _∙_}
 use mathlib.Core.Bool.{Bool, true, false, cond}
 use mathlib.Core.List.{List, [], _∷_}
-use Prim.Native.Nat.{ℕ, _+_, _*_, _<_, _≤_}
+use Prim.Native.Nat.{ℕ, _+_, _*_, _≤_}
 use native.Mathlib.Omega.{arith}
 use lib.Dec.{leb, eqb}
-use lib.ListN.{length, getD, drop}
+use lib.ListN.{length}
 use borrow.Author.Tests.{leb-true, eqb-true, eqb-false}
 use Rattle.catalogue.specs.Bytes.{svidKind, modeKind, endKind}
 use Rattle.records.specs.Records.{isIdentity, isKnown, bodyLength, svidIn, modeIn, recordOf, foundIn}
 use Rattle.records.proofs.Bodies.{known-other, length-identity, length-svid, length-mode, length-other, of-identity, of-svid, of-mode, of-other}
-use Rattle.records.specs.declared.Found.{Found}
-use Rattle.records.specs.declared.Found.the-variants.{Whole, Unknown, Cut, Nothing}
+use Rattle.records.specs.declared.Found.the-variants.{Whole, Unknown, Cut}
 use Rattle.records.specs.declared.Record.{Record}
 use Rattle.records.specs.declared.Record.the-variants.{Identity, Svid, Mode, End}
 

@@ -1,6 +1,5 @@
 -- `passed` meets its promise.
 use mathlib.Core.Path.{refl, ap, sym, _∙_}
-use native.Mathlib.Omega.{arith}
 use Rattle.records.specs.declared.Record.the-variants.{Identity, Svid, Mode, End}
 use Rattle.judging.specs.Noting.{svidsNoted, numbersNoted}
 use Rattle.judging.specs.Walking.{mayFollow}

@@ -1,8 +1,5 @@
 -- `behind_first` meets its promise.
-use mathlib.Core.Path.{sym}
-use Prim.Native.Nat.{_≤_}
 use native.Mathlib.Omega.{arith}
-use lib.ListN.{length}
 use Rattle.pages.proofs.Scanning.{rest-part}
 use Rattle.rebuilding.proofs.Putting.{none-behind}
 use borrow.Author.Needs.{needs}

@@ -8,7 +8,7 @@ use Rattle.records.proofs.record_in.Tie as tie
 
 returns : tie.Need-returns
 returns c =
-    sym (in-nothing (c .before .before .args .bytes .now) (c .if1 .taken))
+    sym (in-nothing (c .before .before .args .bytes .now) (omega (arith, c .if1 .taken)))
 
 shared-slice-read-kind : tie.Need-shared-slice-read-kind
 shared-slice-read-kind c = search needs

@@ -1,6 +1,7 @@
 -- `may_list` meets its promise.
 use mathlib.Core.Path.{ap, sym, _∙_}
 use mathlib.Core.Bool.{not}
+use native.Mathlib.Omega.{arith}
 use Rattle.pages.specs.Lists.{isIn}
 use Rattle.judging.proofs.Following.{list-first, list-bare, list-zero, list-full, list-new}
 use borrow.Author.Needs.{needs}
@@ -24,7 +25,7 @@ returns-3 c =
 
 returns-4 : tie.Need-returns-4
 returns-4 c =
-    sym (list-full (c .before .before .before .before .before .before .before .args .walk) _ (c .before .before .before .before .before .before .before .args .svid) (c .before .before .before .before .before .if1 .left) (sym (c .before .before .before .before .is-bare .ensures) ∙ c .before .before .before .if2 .left) (c .before .before .if3 .left) (c .if4 .taken))
+    sym (list-full (c .before .before .before .before .before .before .before .args .walk) _ (c .before .before .before .before .before .before .before .args .svid) (c .before .before .before .before .before .if1 .left) (sym (c .before .before .before .before .is-bare .ensures) ∙ c .before .before .before .if2 .left) (c .before .before .if3 .left) (omega (arith, c .if4 .taken)))
 
 first-svids-requires : tie.Need-first-svids-requires
 first-svids-requires c κs = search needs
@@ -35,7 +36,7 @@ is-in-requires c κs = search needs
 returns-5 : tie.Need-returns-5
 returns-5 c =
     ap not (c .is-in .ensures ∙ ap (isIn (c .before .before .before .before .before .before .before .before .before .before .args .svid)) (c .before .first-svids .ensures)) ∙
-    sym (list-new (c .before .before .before .before .before .before .before .before .before .before .args .walk) _ (c .before .before .before .before .before .before .before .before .before .before .args .svid) (c .before .before .before .before .before .before .before .before .if1 .left) (sym (c .before .before .before .before .before .before .before .is-bare .ensures) ∙ c .before .before .before .before .before .before .if2 .left) (c .before .before .before .before .before .if3 .left) (c .before .before .before .if4 .left))
+    sym (list-new (c .before .before .before .before .before .before .before .before .before .before .args .walk) _ (c .before .before .before .before .before .before .before .before .before .before .args .svid) (c .before .before .before .before .before .before .before .before .if1 .left) (sym (c .before .before .before .before .before .before .before .is-bare .ensures) ∙ c .before .before .before .before .before .before .if2 .left) (c .before .before .before .before .before .if3 .left) (omega (arith, c .before .before .before .if4 .left)))
 
 pub may-list-spec : {M : Type 1} → statement M
 may-list-spec =

@@ -13,12 +13,9 @@ use judging::Walk;
 use laptop::MODES_EACH;
 use laptop::number_at;
 use reading::object_at;
-
-const OBJECT: usize = 4;
-
-const SVID_RECORD: usize = 3;
-
-const MODE_RECORD: usize = 5;
+use records::MODE_RECORD;
+use records::OBJECT_BYTES;
+use records::SVID_RECORD;
 
 // Object i of an identity of so many objects, 0 past them.
 fn object_of(body: &[u8], extent: usize, i: usize) -> u32
@@ -91,7 +88,7 @@ pub(crate) fn put_modes(bytes: &[u8], walk: Walk, numbers: &[u8; 72], run: &mut 
     ensures { λ _. ⌜ ((entries : List Entry) → Standing entries (now (bytes .entry)) walk (now (numbers .entry)) →
         now (run .exit) ≡ modesInto (now (run .entry)) 0 entries) ⌝ }
 {
-    let mut at = 1 + walk.extent * OBJECT;
+    let mut at = 1 + walk.extent * OBJECT_BYTES;
     let mut i = 0;
     while i < walk.count {
         let modes_at = at + SVID_RECORD;

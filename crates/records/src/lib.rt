@@ -27,11 +27,11 @@ const MODE: u8 = 0x20;
 const END: u8 = 0x00;
 
 // The number of bytes of an identity object, and of each record, the kind counted.
-const OBJECT: usize = 4;
+pub const OBJECT_BYTES: usize = 4;
 
-const SVID_RECORD: usize = 3;
+pub const SVID_RECORD: usize = 3;
 
-const MODE_RECORD: usize = 5;
+pub const MODE_RECORD: usize = 5;
 
 const END_RECORD: usize = 1;
 
@@ -70,7 +70,7 @@ fn identity_in(bytes: &[u8], kind: u8) -> Found
     requires { ⌜ (0 < length (now bytes)) × (getD (now bytes) 0 0 ≡ kind) × (isIdentity kind ≡ true) ⌝ }
     ensures { λ r. ⌜ r ≡ foundIn (now (bytes .entry)) ⌝ }
 {
-    let length = 1 + (kind as usize) * OBJECT;
+    let length = 1 + (kind as usize) * OBJECT_BYTES;
     if bytes.len() < length {
         return Found::Cut;
     }

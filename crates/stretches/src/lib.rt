@@ -9,15 +9,11 @@ ghost use Rattle.stretches.specs.Stretches.{refusedAt, NotedAs, placeIn,
 use judging::Walk;
 use judging::judge;
 use laptop::number_at;
+use records::MODE_RECORD;
+use records::OBJECT_BYTES;
+use records::SVID_RECORD;
 
 pub const NOT_LISTED: u8 = 12;
-
-// The number of bytes of an identity object, of an SVID's record, and of a mode's.
-const OBJECT: usize = 4;
-
-const SVID_RECORD: usize = 3;
-
-const MODE_RECORD: usize = 5;
 
 // The refusal number and the fault's offset; on acceptance where the stretch begins, and how many bytes it has, which are none with a refusal.
 pub struct Place {
@@ -52,7 +48,7 @@ fn place_in(svid: u16, walk: Walk, svids: &[u16; 72], numbers: &[u8; 72]) -> Pla
     requires { ⌜ (walk .extent ≤ 6) × (walk .count ≤ 72) ⌝ }
     ensures { λ r. ⌜ ((entries : List Entry) → NotedAs entries walk (now (svids .entry)) (now (numbers .entry)) → r ≡ placeIn svid (1 + walk .extent * 4) entries) ⌝ }
 {
-    let mut at = 1 + walk.extent * OBJECT;
+    let mut at = 1 + walk.extent * OBJECT_BYTES;
     let mut i = 0;
     while i < walk.count {
         let modes_at = at + SVID_RECORD;

@@ -36,10 +36,11 @@ fn modes_place(at: usize, number: usize) -> Place
     requires { ⌜ number < 256 ⌝ }
     ensures { λ r. ⌜ r ≡ record { refusal = 0; at = at; length = number * 5 } ⌝ }
 {
+    let length = number * MODE_RECORD;
     Place {
         refusal: 0,
         at,
-        length: number * MODE_RECORD,
+        length,
     }
 }
 

@@ -1,5 +1,5 @@
 -- A number is given at a place, with the catalogue of the records before it, exactly when 02's words say so; so it is given once.
-use mathlib.Core.Logic.{_↔_}
+use mathlib.Core.Logic.{_↔_, _⊎_, inl, inr}
 use mathlib.Core.Path.{_≡_, refl, ap, ap₂, sym, _∙_, subst}
 use mathlib.Core.Bool.{false}
 use mathlib.Core.List.{List, [], _∷_}
@@ -119,3 +119,14 @@ module _ (bytes : List ℕ) where
   given-once {n} {n′} {at} {at′} {c} {c′} g g′ =
       let e : judgement n at c ≡ judgement n′ at′ c′ = sym (judged-as g) ∙ judged-as g′ in
       (ap (λ (j : Judgement). j .refusal) e, ap (λ (j : Judgement). j .at) e, ap (λ (j : Judgement). j .catalogue) e)
+
+  -- there are no other numbers than 15 to 18
+  pub only-these : (judgementOf bytes .refusal ≡ 0) ⊎ ((15 ≤ judgementOf bytes .refusal) × (judgementOf bytes .refusal ≤ 18))
+  only-these = go (given-exactly (judgementOf bytes .refusal) (judgementOf bytes .at) (judgementOf bytes .catalogue) .0 refl)
+    where
+      go : {number at : ℕ} {c : Catalogue} → Given bytes number at c → (number ≡ 0) ⊎ ((15 ≤ number) × (number ≤ 18))
+      go (unknown p e) = inr (omega arith, omega arith)
+      go (cut p e) = inr (omega arith, omega arith)
+      go (wrong p r n e w) = inr (omega arith, omega arith)
+      go (behind-end p n e right more) = inr (omega arith, omega arith)
+      go (sound p n e right all) = inl refl

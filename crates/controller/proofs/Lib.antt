@@ -8,3 +8,4 @@ pub mod Laws
 pub mod Only
 pub mod ReadingBack
 pub mod Refusing
+pub mod Reserved

@@ -7,10 +7,11 @@ use mathlib.Core.List.{List, [], _++_}
 use Prim.Native.Nat.{ℕ, _+_, _*_, _/_, _^_, _<_, _≤_}
 use lib.ListN.{length, getD, take, replicate}
 use Rattle.laws.specs.Bounded.{Below}
-use Rattle.messages.specs.Layout.{Message, Representable, messageBytes, withOurVersion}
+use Rattle.messages.specs.Layout.{Message, Representable, messageBytes, withOurVersion, withReservedClear}
 use Rattle.messages.specs.Reading.{accepted, readOutcome}
 use Rattle.messages.specs.Writing.{wellShaped, Written}
 use Rattle.messages.proofs.Laws.{write-read}
+use Rattle.messages.proofs.Reserved.{reserved-ignored}
 use Rattle.messages.proofs.RoundTrip.{read-bytes}
 use Rattle.pages.specs.Lists.{isIn, soundList}
 use Rattle.pages.specs.Pages.{halves, page, isLast, remaining, readOff, pages, readPages}
@@ -31,18 +32,25 @@ use Rattle.owner.specs.Owner.{anyEntered}
 use Rattle.laptop.specs.declared.Candidate.the-variants.{Absent}
 use Rattle.laptop.specs.declared.Laptop.{Laptop}
 use Rattle.laptop.specs.declared.Wait.the-variants.{Nothing, Answer}
-use Rattle.laptop_laws.specs.Effects.{Call, effectOf, keptAfter}
+use Rattle.laptop_laws.specs.Effects.{Call, effectOf, Kept, keptAfter}
 use Rattle.laptop_laws.specs.Given.{Given}
 use Rattle.laptop_laws.specs.Refusing.{RefusedAs}
+use Rattle.laptop_laws.specs.Reserved.{reservedClear, allReservedClear}
 use Rattle.laptop_laws.specs.WellFormed.{Lent, WellFormed}
 use Rattle.laptop_laws.proofs.Given.{given-exactly}
 use Rattle.laptop_laws.proofs.Laws.{keeps}
 use Rattle.laptop_laws.proofs.Leaves.{refusal-leaves}
 use Rattle.laptop_laws.proofs.Refusing.{refusal-state}
+use Rattle.laptop_laws.proofs.Reserved.{effect-same, kept-same}
 use Rattle.dock_laws.specs.Effects.{Call as Dock·Call}
 use Rattle.dock_laws.specs.Effects.{effectOf as Dock·effectOf}
+use Rattle.dock_laws.specs.Effects.{decision, dockAfter}
 use Rattle.dock_laws.specs.Given.{Given as Dock·Given}
+use Rattle.dock_laws.specs.Reserved.{reservedClear as Dock·reservedClear}
+use Rattle.dock_laws.specs.Reserved.{allReservedClear as Dock·allReservedClear}
 use Rattle.dock_laws.proofs.Given.{given-exactly as Dock·given-exactly}
+use Rattle.dock_laws.proofs.Reserved.{effect-same as Dock·effect-same}
+use Rattle.dock_laws.proofs.Reserved.{dock-same}
 use Rattle.catalogue.specs.Bytes.{catalogueBytes, HeldCatalogue, holding, heldCatalogue, CatalogueWritten}
 use Rattle.catalogue.specs.declared.Bytes.{Bytes}
 use Rattle.catalogue.proofs.Laws.{refused-leaves}
@@ -65,7 +73,9 @@ use Rattle.rebuilding.proofs.Holding.{read-holds}
 use Rattle.rebuilding.proofs.Laws.{refused-leaves as Reading·refused-leaves}
 use Rattle.stretches.specs.Stretches.{stretchIn}
 use Rattle.stretches.proofs.Laws.{not-listed-exactly}
+use Rattle.demands.specs.Numbers.{AnyCall, numberGiven}
 use Rattle.demands.proofs.HeldWithin.{Wide, held-within, held-reads}
+use Rattle.demands.proofs.NeverFour.{never-four}
 use Rattle.link.specs.Cases.{cases, caseL, given, said}
 use Rattle.link.specs.Demand.{Meets, AtRest, Begins, apart, OldOrWhole, Lowers, Replaces, Counts, Completes, Raises, EndsBy, NeverBad, RequestTaken}
 use Rattle.link.specs.Exchanges.{HasAll, LossFree, NoDeadEnd, NextAsks}
@@ -122,9 +132,9 @@ catalogue-refusal-leaves = refused-leaves
 pub read-what-was-written : (m : Message) → Representable m → wellShaped m ≡ true → readOutcome (messageBytes m) ≡ accepted m
 read-what-was-written = read-bytes
 
--- writing what was read gives the same bytes with our version in the header,
+-- writing what was read gives the same bytes with our version in the header and bit 5 cleared (02, R-2),
 pub write-what-was-read : (b : List ℕ) → Below 256 b → (m : Message) → readOutcome b ≡ accepted m → (out : List ℕ) → length out ≡ length b →
-    Written m out 0 (withOurVersion b)
+    Written m out 0 (withOurVersion (withReservedClear b))
 write-what-was-read = write-read
 
 -- a dock's n / 12 + 1 pages, read off in order, are its list,
@@ -154,6 +164,30 @@ every-run = runs-hold
 -- The link permits what that section grants, in every state: losses, late answers, BUSY, early and late confirmations, for every list and every SVID.
 pub link-permits : (modesOf : ℕ → List ℕ) (s : System) → Permits modesOf s
 link-permits = permits
+
+-- RESERVED MEANS IGNORED (02, R-2). A message with bit 5 set gets exactly what it would get with bit 5 clear: when it is read,
+pub read-whatever-bit-5 : (bytes : List ℕ) → readOutcome (withReservedClear bytes) ≡ readOutcome bytes
+read-whatever-bit-5 = reserved-ignored
+
+-- at the laptop, in number, message to send, what policy is told, state, all that is lent, and buffer, and so after any history,
+pub laptop-whatever-bit-5 : (c : Call) (l : Laptop) (m : Memory) (out : List ℕ) → effectOf (reservedClear c) l m out ≡ effectOf c l m out
+laptop-whatever-bit-5 = effect-same
+
+pub laptop-history-whatever-bit-5 : (history : List (Call × List ℕ)) (k : Kept) → keptAfter (allReservedClear history) k ≡ keptAfter history k
+laptop-history-whatever-bit-5 = kept-same
+
+-- and at the dock.
+pub dock-whatever-bit-5 : (c : Dock·Call) (d : Dock) (out : List ℕ) →
+    (Dock·effectOf (Dock·reservedClear c) d out ≡ Dock·effectOf c d out) ×
+    (bufferOf (decision (Dock·reservedClear c) d) out ≡ bufferOf (decision c d) out)
+dock-whatever-bit-5 = Dock·effect-same
+
+pub dock-history-whatever-bit-5 : (history : List (Dock·Call × List ℕ)) (d : Dock) → dockAfter (Dock·allReservedClear history) d ≡ dockAfter history d
+dock-history-whatever-bit-5 = dock-same
+
+-- 4 is never given again: no public call answers it, whatever it is lent.
+pub four-is-never-given : (c : AnyCall) → numberGiven c ≡ 4 → ⊥
+four-is-never-given = never-four
 
 -- THE CATALOGUE READ BACK (02, R-1). What the writer wrote for a catalogue within 01's limits reads as that catalogue,
 pub read-what-the-writer-wrote : (c : Catalogue) → Within c → judgementOf (catalogueBytes c) ≡ judgement 0 (length (catalogueBytes c)) c

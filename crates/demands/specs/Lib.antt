@@ -1,1 +1,2 @@
--- The front page has no definitions of its own.
+-- What the front page says of all public calls at once.
+pub mod Numbers

@@ -7,6 +7,7 @@ pub mod Limits
 pub mod Loading
 pub mod Messages
 pub mod Replaced
+pub mod Reserved
 pub mod Sending
 pub mod Sent
 pub mod Tight

@@ -1,3 +1,4 @@
 -- The dock as a whole: every call, and when it is refused.
 pub mod Effects
 pub mod Given
+pub mod Reserved

@@ -3,6 +3,7 @@ use mathlib.Core.Logic.{_↔_, inl}
 use mathlib.Core.Path.{_≡_, refl, ap, sym, _∙_, subst}
 use mathlib.Core.List.{List, [], _∷_}
 use Prim.Native.Nat.{ℕ, _<_}
+use native.Mathlib.Omega.{arith}
 use lib.Dec.{ltb}
 use lib.ListN.{length}
 use Rattle.laptop.specs.Catalogue.{runWords}
@@ -10,7 +11,7 @@ use Rattle.catalogue.specs.Bytes.{catalogueBytes, leastObjects, HeldCatalogue, 
 use Rattle.catalogue.specs.declared.Bytes.{Bytes}
 use Rattle.laptop_laws.specs.CatalogueGiven.{NoneHeld, TooShortFor, catalogueLines}
 use Rattle.laptop_laws.specs.Given.{_when_, First}
-use Rattle.laptop_laws.proofs.First.{tells-ltb, first-test, first-only}
+use Rattle.laptop_laws.proofs.First.{tells-ltb, first-test, first-only, none-first}
 
 held-first : (held : HeldCatalogue) (room : ℕ) → First (12 when NoneHeld held ∷ 11 when TooShortFor held room ∷ []) (heldRefusal held room)
 unfolding heldRefusal sizeRefusal
@@ -33,3 +34,8 @@ catalogue-given-exactly held words out result after w number =
       λ e. subst (First (catalogueLines held words (length out))) (sym is ∙ e) first,
       λ g. is ∙ first-only (catalogueLines held words (length out)) (catalogueRefusal held words (length out)) number first g,
     )
+
+-- 4 is withdrawn, and here too no line has it
+pub catalogue-never-four : (held : HeldCatalogue) (words room : ℕ) → catalogueRefusal held words room ≡ 4 → ⊥
+catalogue-never-four held words room e =
+    none-first 4 (catalogueLines held words room) (λ z. omega arith) (omega arith) (subst (First (catalogueLines held words room)) e (catalogue-first held words room))

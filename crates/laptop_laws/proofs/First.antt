@@ -62,10 +62,19 @@ pub first-test : (t : Bool) (k : ℕ) (holds : Type 0) (lines : List Line) (n : 
 first-test true k holds lines n h rest = inl (h, refl)
 first-test false k holds lines n h rest = inr (h, rest refl)
 
+-- a number that no line has is that of none
+abbrev pub Without : ℕ → List Line → Type 0
+Without number [] = Unit
+Without number (line ∷ list) = (line .number ≡ number → ⊥) × Without number list
+
+pub none-first : (number : ℕ) (list : List Line) → (number ≡ 0 → ⊥) → Without number list → First list number → ⊥
+none-first number [] some none e = some e
+none-first number (line ∷ list) some none (inl x) = none .0 (sym (x .1))
+none-first number (line ∷ list) some none (inr x) = none-first number list some (none .1) (x .1)
+
 -- lines behind others, none of which has the number 0
 abbrev pub Numbered : List Line → Type 0
-Numbered [] = Unit
-Numbered (line ∷ lines) = (line .number ≡ 0 → ⊥) × Numbered lines
+Numbered lines = Without 0 lines
 
 pub first-behind : (before behind : List Line) (n k : ℕ) → Numbered before → First before n → (n ≡ 0 → First behind k) →
     First (before ++ behind) (cond (eqb n 0) k n)

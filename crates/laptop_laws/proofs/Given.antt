@@ -1,14 +1,14 @@
 -- Each refusal number is given exactly when 01's line says, whatever the call, the state and what is lent.
-use mathlib.Core.Logic.{_↔_, inl, inr}
-use mathlib.Core.Path.{_≡_, sym, subst}
-use mathlib.Core.List.{List, [], _∷_}
+use mathlib.Core.Logic.{_↔_}
+use mathlib.Core.Path.{_≡_, subst}
+use mathlib.Core.List.{List}
 use Prim.Native.Nat.{ℕ}
 use native.Mathlib.Omega.{arith}
 use Rattle.laptop.specs.State.{Memory}
 use Rattle.laptop.specs.declared.Laptop.{Laptop}
 use Rattle.laptop_laws.specs.Effects.{Call, message, next, startOver, drop, enter, exit, timer, protocolError, effectOf}
-use Rattle.laptop_laws.specs.Given.{Line, First, lines, Given}
-use Rattle.laptop_laws.proofs.First.{first-only}
+use Rattle.laptop_laws.specs.Given.{First, lines, Given}
+use Rattle.laptop_laws.proofs.First.{first-only, Without, none-first}
 use Rattle.laptop_laws.proofs.MessageGiven.{message-given}
 use Rattle.laptop_laws.proofs.ModesGiven.{enter-given, exit-given}
 use Rattle.laptop_laws.proofs.OwnerGiven.{next-given, start-given, drop-given, timer-given, error-given}
@@ -31,29 +31,23 @@ given-exactly c l m out number = (
 )
 
 -- a number that no line has is never given
-abbrev pub Without : ℕ → List Line → Type 0
-Without number [] = Unit
-Without number (line ∷ list) = (line .number ≡ number → ⊥) × Without number list
-
-none-first : (number : ℕ) (list : List Line) → (number ≡ 0 → ⊥) → Without number list → First list number → ⊥
-none-first number [] some none e = some e
-none-first number (line ∷ list) some none (inl x) = none .0 (sym (x .1))
-none-first number (line ∷ list) some none (inr x) = none-first number list some (none .1) (x .1)
-
 pub never-without : (number : ℕ) (c : Call) (l : Laptop) (m : Memory) (out : List ℕ) → (number ≡ 0 → ⊥) → Without number (lines c l m out) →
     effectOf c l m out .step .refusal ≡ number → ⊥
 never-without number c l m out some none e = none-first number (lines c l m out) some none (given-exactly c l m out number .0 e)
 
--- 10 is the dock's: no call of the laptop gives it
-ten-without : (c : Call) (l : Laptop) (m : Memory) (out : List ℕ) → Without 10 (lines c l m out)
-ten-without (message bytes) l m out = omega arith
-ten-without next l m out = omega arith
-ten-without startOver l m out = omega arith
-ten-without drop l m out = omega arith
-ten-without (enter svid position) l m out = omega arith
-ten-without (exit svid position) l m out = omega arith
-ten-without (timer first last) l m out = omega arith
-ten-without protocolError l m out = omega arith
+-- 10 is the dock's, and 4 is withdrawn: no call of the laptop gives them
+neither-line : (c : Call) (l : Laptop) (m : Memory) (out : List ℕ) → Without 10 (lines c l m out) × Without 4 (lines c l m out)
+neither-line (message bytes) l m out = omega arith
+neither-line next l m out = omega arith
+neither-line startOver l m out = omega arith
+neither-line drop l m out = omega arith
+neither-line (enter svid position) l m out = omega arith
+neither-line (exit svid position) l m out = omega arith
+neither-line (timer first last) l m out = omega arith
+neither-line protocolError l m out = omega arith
 
 pub never-ten : (c : Call) (l : Laptop) (m : Memory) (out : List ℕ) → effectOf c l m out .step .refusal ≡ 10 → ⊥
-never-ten c l m out = never-without 10 c l m out (λ z. omega arith) (ten-without c l m out)
+never-ten c l m out = never-without 10 c l m out (λ z. omega arith) (neither-line c l m out .0)
+
+pub never-four : (c : Call) (l : Laptop) (m : Memory) (out : List ℕ) → effectOf c l m out .step .refusal ≡ 4 → ⊥
+never-four c l m out = never-without 4 c l m out (λ z. omega arith) (neither-line c l m out .1)

@@ -18,3 +18,4 @@ pub mod OwnerGiven
 pub mod Places
 pub mod Refusing
 pub mod Replacing
+pub mod Reserved

@@ -9,7 +9,7 @@ use lib.Dec.{leb, ltb, eqb}
 use lib.ListN.{length, take}
 use borrow.Author.Tests.{eqb-true, eqb-false, leb-false}
 use Rattle.messages.specs.Layout.{headOf, Message}
-use Rattle.messages.specs.Reading.{accepted, refused, outcome, wrongLength, unstructured, wrongMajor, reservedSet, wrongShape, headerIn, messageIn, readRefusal, readOutcome}
+use Rattle.messages.specs.Reading.{accepted, refused, outcome, wrongLength, unstructured, wrongMajor, wrongShape, headerIn, messageIn, readRefusal, readOutcome}
 use Rattle.messages.specs.declared.Head.{Head}
 use Rattle.messages.specs.declared.request.Request.{Request}
 use Rattle.pages.specs.Pages.{halves}
@@ -33,21 +33,20 @@ use Rattle.laptop_laws.proofs.First.{Tells, tells, tells-and, tells-eqb
 use Rattle.laptop_laws.proofs.Leaves.{whole-refusal}
 use Rattle.laptop_laws.proofs.OwnerGiven.{tells-short}
 
--- reading: 1 to 5
+-- reading: 1, 2, 3, 5
 module _ (bytes : List ℕ) where
   reading-first : First (readingLines bytes) (readRefusal bytes)
   unfolding readRefusal
-  reading-first = by (wrongLength (length bytes)) (unstructured (headerIn bytes)) (wrongMajor (headerIn bytes)) (reservedSet (headerIn bytes)) (wrongShape (headerIn bytes) (length bytes / 4))
+  reading-first = by (wrongLength (length bytes)) (unstructured (headerIn bytes)) (wrongMajor (headerIn bytes)) (wrongShape (headerIn bytes) (length bytes / 4))
     where
-      by : (a b c d e : Bool) →
-          First (1 when (a ≡ true) ∷ 2 when (b ≡ true) ∷ 3 when (c ≡ true) ∷ 4 when (d ≡ true) ∷ 5 when (e ≡ true) ∷ [])
-          (cond a 1 (cond b 2 (cond c 3 (cond d 4 (cond e 5 0)))))
-      by true b c d e = inl (refl, refl)
-      by false true c d e = inr (false≢true, inl (refl, refl))
-      by false false true d e = inr (false≢true, inr (false≢true, inl (refl, refl)))
-      by false false false true e = inr (false≢true, inr (false≢true, inr (false≢true, inl (refl, refl))))
-      by false false false false true = inr (false≢true, inr (false≢true, inr (false≢true, inr (false≢true, inl (refl, refl)))))
-      by false false false false false = inr (false≢true, inr (false≢true, inr (false≢true, inr (false≢true, inr (false≢true, refl)))))
+      by : (a b c d : Bool) →
+          First (1 when (a ≡ true) ∷ 2 when (b ≡ true) ∷ 3 when (c ≡ true) ∷ 5 when (d ≡ true) ∷ [])
+          (cond a 1 (cond b 2 (cond c 3 (cond d 5 0))))
+      by true b c d = inl (refl, refl)
+      by false true c d = inr (false≢true, inl (refl, refl))
+      by false false true d = inr (false≢true, inr (false≢true, inl (refl, refl)))
+      by false false false true = inr (false≢true, inr (false≢true, inr (false≢true, inl (refl, refl))))
+      by false false false false = inr (false≢true, inr (false≢true, inr (false≢true, inr (false≢true, refl))))
 
   reading-numbered : Numbered (readingLines bytes)
   reading-numbered = omega arith

@@ -8,7 +8,7 @@ use lib.Dec.{leb, ltb, eqb}
 use lib.ListN.{length}
 use borrow.Author.Tests.{ne-eqb, eqb-true}
 use Rattle.messages.specs.Layout.{Message, messageBytes}
-use Rattle.messages.specs.Reading.{accepted, refused, outcome, wrongLength, unstructured, wrongMajor, reservedSet, wrongShape, headerIn, messageIn, readRefusal, readOutcome}
+use Rattle.messages.specs.Reading.{accepted, refused, outcome, wrongLength, unstructured, wrongMajor, wrongShape, headerIn, messageIn, readRefusal, readOutcome}
 use Rattle.messages.specs.Writing.{writeRefusal}
 use Rattle.messages.specs.declared.request.Request.{Request}
 use Rattle.pages.specs.Pages.{halves}
@@ -32,7 +32,8 @@ use Rattle.laptop.specs.declared.Wait.the-variants.{Nothing, Answer}
 use Rattle.laptop_laws.specs.Effects.{Call, message, next, startOver, drop, enter, exit, timer, protocolError, effectOf}
 use Rattle.laptop_laws.specs.Given.{lines}
 use Rattle.laptop_laws.specs.Refusing.{bringsPage, leftBy, RefusedAs}
-use Rattle.laptop_laws.proofs.Given.{Without, never-without}
+use Rattle.laptop_laws.proofs.First.{Without}
+use Rattle.laptop_laws.proofs.Given.{never-without}
 use Rattle.laptop_laws.proofs.Leaves.{whole-refusal}
 use Rattle.laptop_laws.proofs.MessageGiven.{identity-number, mode-number}
 
@@ -232,20 +233,18 @@ module _ (l : Laptop) (bytes : List ℕ) where
       (λ e. request-so (ne-eqb (x .head .kind) 1 (λ z. omega (arith, z, eqb-true (x .head .kind) 0 e))) _ _)
       (λ e. result-either (fits (l .wait) (x .head)) _ _ (λ g. answer-so m) (λ g. unawaited-so))
 
-  -- 1 to 5 leave the state alone
+  -- 1, 2, 3 and 5 leave the state alone
   read-left : leftBy (readRefusal bytes) (message bytes) l ≡ l
   unfolding readRefusal
   read-left =
-      go (wrongLength (length bytes)) (unstructured (headerIn bytes)) (wrongMajor (headerIn bytes)) (reservedSet (headerIn bytes))
-      (wrongShape (headerIn bytes) (length bytes / 4))
+      go (wrongLength (length bytes)) (unstructured (headerIn bytes)) (wrongMajor (headerIn bytes)) (wrongShape (headerIn bytes) (length bytes / 4))
     where
-      go : (a b c d e : Bool) → leftBy (cond a 1 (cond b 2 (cond c 3 (cond d 4 (cond e 5 0))))) (message bytes) l ≡ l
-      go true b c d e = refl
-      go false true c d e = refl
-      go false false true d e = refl
-      go false false false true e = refl
-      go false false false false true = refl
-      go false false false false false = refl
+      go : (a b c d : Bool) → leftBy (cond a 1 (cond b 2 (cond c 3 (cond d 5 0)))) (message bytes) l ≡ l
+      go true b c d = refl
+      go false true c d = refl
+      go false false true d = refl
+      go false false false true = refl
+      go false false false false = refl
 
   outcome-so : (m : Memory) (n : ℕ) → leftBy n (message bytes) l ≡ l → So (hear l m (outcome n x) .step)
   unfolding outcome hear

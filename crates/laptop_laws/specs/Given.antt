@@ -6,7 +6,7 @@ use mathlib.Core.List.{List, [], _∷_, _++_}
 use Prim.Native.Nat.{ℕ, _+_, _-_, _/_, _%_, _^_, _<_, _≤_}
 use lib.ListN.{length, getD}
 use Rattle.messages.specs.Layout.{req, ack, nak, Message}
-use Rattle.messages.specs.Reading.{wrongLength, unstructured, wrongMajor, reservedSet, wrongShape, headerIn, messageIn}
+use Rattle.messages.specs.Reading.{wrongLength, unstructured, wrongMajor, wrongShape, headerIn, messageIn}
 use Rattle.messages.specs.Requests.{svidsCommand, modesCommand, enterCommand, exitCommand, attentionCommand}
 use Rattle.messages.specs.Table.{pdSid}
 use Rattle.messages.specs.Writing.{wellShaped}
@@ -104,13 +104,12 @@ abbrev pub RightTimer : ℕ → ℕ → Wait → Type 0
 RightTimer first last Nothing = ⊥
 RightTimer first last (Answer r) = (first ≤ r .command) × (r .command ≤ last)
 
--- 1 to 5: as reading
+-- 1, 2, 3, 5: as reading; 02 has withdrawn 4
 abbrev pub readingLines : List ℕ → List Line
 readingLines bytes =
     1 when (wrongLength (length bytes) ≡ true) ∷
     2 when (unstructured (headerIn bytes) ≡ true) ∷
     3 when (wrongMajor (headerIn bytes) ≡ true) ∷
-    4 when (reservedSet (headerIn bytes) ≡ true) ∷
     5 when (wrongShape (headerIn bytes) (length bytes / 4) ≡ true) ∷ []
 
 -- an answer fits the awaited SVID, command and position

@@ -4,4 +4,5 @@ pub mod Effects
 pub mod Given
 pub mod Holding
 pub mod Refusing
+pub mod Reserved
 pub mod WellFormed

@@ -1,4 +1,4 @@
--- The header: what we write is read again, and what was read is written again with our version.
+-- The header: what we write is read again, what was read is written again with our version and bit 5 cleared, and bit 5 says nothing.
 use mathlib.Core.Path.{_≡_, ap, sym, _∙_}
 use Prim.Native.Nat.{ℕ, _+_, _*_, _-_, _/_, _%_, _^_, _<_}
 use native.Mathlib.Nat.{div-one, div-div-eq-div-mul}
@@ -23,11 +23,6 @@ module _ (h : Head) (s : h .svid < 2 ^ 16) (c : h .command < 32) (k : h .kind < 
   header-major =
       field _ 8192 4 (h .svid * 2 + 1) 1 (h .position * 256 + h .kind * 64 + h .command) (omega arith) (omega arith) (omega arith)
 
-  pub header-reserved : reserved (headerOf h) ≡ 0
-  unfolding headerOf
-  header-reserved =
-      field _ 32 2 (h .svid * 1024 + 640 + h .position * 4 + h .kind) 0 (h .command) (omega arith) (omega arith) (omega arith)
-
   pub head-header : headOf (headerOf h) ≡ h
   unfolding headOf headerOf
   head-header =
@@ -44,10 +39,10 @@ module _ (h : Head) (s : h .svid < 2 ^ 16) (c : h .command < 32) (k : h .kind < 
 
 -- a header that was read, by its four bytes
 module _ (p q r s : ℕ) (hp : p < 256) (hq : q < 256) (hr : r < 256) (hs : s < 256) where
-  pub header-head : structured (objectOf p q r s) ≡ 1 → reserved (objectOf p q r s) ≡ 0 →
-      headerOf (headOf (objectOf p q r s)) ≡ objectOf p (bits 7 7 q * 2 ^ 7 + 1 * 2 ^ 5 + 0 * 2 ^ 3 + bits 2 0 q) r s
+  pub header-head : structured (objectOf p q r s) ≡ 1 →
+      headerOf (headOf (objectOf p q r s)) ≡ objectOf (p - reserved p * 2 ^ 5) (bits 7 7 q * 2 ^ 7 + 1 * 2 ^ 5 + 0 * 2 ^ 3 + bits 2 0 q) r s
   unfolding headOf headerOf
-  header-head set clear =
+  header-head set =
       let w : ℕ = objectOf p q r s in
       let es : w / 65536 % 65536 ≡ r + s * 256 = field w 65536 65536 0 (r + s * 256) (p + q * 256) (omega arith) (omega arith) (omega arith) in
       let ec : w / 1 % 32 ≡ p % 32 =
@@ -57,9 +52,39 @@ module _ (p q r s : ℕ) (hp : p < 256) (hq : q < 256) (hr : r < 256) (hs : s < 
       let ep : w / 256 % 8 ≡ q % 8 = field w 256 8 (r * 32 + s * 8192 + q / 8) (q % 8) p (omega arith) (omega arith) (omega arith) in
       let et : w / 32768 % 2 ≡ q / 128 =
       field w 32768 2 (r + s * 256) (q / 128) (p + q % 128 * 256) (omega arith) (omega arith) (omega arith) in
-      let er : w / 32 % 2 ≡ p / 32 % 2 =
-      field w 32 2 (q * 4 + r * 1024 + s * 262144 + p / 64) (p / 32 % 2) (p % 32) (omega (arith, div-div-eq-div-mul p 32 2)) (omega arith) (omega arith) in
       let half : p / 32 / 2 ≡ p / 64 = div-div-eq-div-mul p 32 2 in
       let top : q / 128 % 2 ≡ 1 = ap (λ (n : ℕ). n % 2) (sym et ∙ set) in
       let one : q / 1 ≡ q = div-one q in
       rw (es, ec, ek, ep, one, top) (omega arith)
+
+-- a header with bit 5 cleared, by its four numbers: all that is read of it is the same
+module _ (p q r s : ℕ) where
+  abbrev header : ℕ
+  header = objectOf p q r s
+
+  abbrev cleared : ℕ
+  cleared = objectOf (p - reserved p * 2 ^ 5) q r s
+
+  low : cleared / 1 % 32 ≡ header / 1 % 32
+  low = omega arith
+
+  high : cleared / 64 ≡ header / 64
+  high = omega arith
+
+  above : (k : ℕ) → cleared / (64 * k) ≡ header / (64 * k)
+  above k = sym (div-div-eq-div-mul cleared 64 k) ∙ ap (λ (n : ℕ). n / k) high ∙ div-div-eq-div-mul header 64 k
+
+  pub clear-structured : structured cleared ≡ structured header
+  clear-structured = ap (λ (n : ℕ). n % 2) (above 512)
+
+  pub clear-major : major cleared ≡ major header
+  clear-major = ap (λ (n : ℕ). n % 4) (above 128)
+
+  pub clear-head : headOf cleared ≡ headOf header
+  unfolding headOf
+  clear-head = λ i. record {
+    svid = above 1024 i % 65536;
+    command = low i;
+    kind = high i % 4;
+    position = above 4 i % 8;
+  }

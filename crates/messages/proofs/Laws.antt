@@ -12,7 +12,7 @@ use Rattle.laws.specs.Bounded.{Below}
 use Rattle.laws.specs.Lines.{firstAt}
 use Rattle.laws.specs.Padded.{padded}
 use Rattle.laws.proofs.Lines.{first-line, first-at}
-use Rattle.messages.specs.Layout.{headOf, Message, Representable, messageBytes, withOurVersion}
+use Rattle.messages.specs.Layout.{headOf, Message, Representable, messageBytes, withOurVersion, withReservedClear}
 use Rattle.messages.specs.Table.{rowOf, countsOf, shape, allowed, firstHead}
 use Rattle.messages.specs.Reading.{headerIn, readLines, readRefusal, messageIn, Outcome, accepted, refused, outcome, readOutcome, shown}
 use Rattle.messages.specs.Writing.{wellShaped, writeRefusal, written, Written}
@@ -64,15 +64,15 @@ read-write m fits out e =
     rw e (take-append-seam (messageBytes m) (drop (length (messageBytes m)) out)) in
     ap readOutcome kept ∙ read-bytes m fits (write-accepted m (length out) .0 e .0)
 
--- what was read is written again, with our version in the header
+-- what was read is written again, with our version in the header and bit 5 cleared
 pub write-read : (b : List ℕ) → Below 256 b → (m : Message) → readOutcome b ≡ accepted m → (out : List ℕ) → length out ≡ length b →
-    Written m out 0 (withOurVersion b)
-unfolding withOurVersion
+    Written m out 0 (withOurVersion (withReservedClear b))
+unfolding withOurVersion withReservedClear
 write-read b below m e out room =
-    let bytes : messageBytes m ≡ withOurVersion b = bytes-read b m below e in
-    let size : length (messageBytes m) ≡ length out = ap length bytes ∙ length-set b 1 _ ∙ sym room in
+    let bytes : messageBytes m ≡ withOurVersion (withReservedClear b) = bytes-read b m below e in
+    let size : length (messageBytes m) ≡ length out = ap length bytes ∙ length-set (withReservedClear b) 1 _ ∙ length-set b 0 _ ∙ sym room in
     let rest : drop (length (messageBytes m)) out ≡ [] = ap (λ (n : ℕ). drop n out) size ∙ drop-length out in
-    write-whole m out (accepted-shape b m e) (omega (arith, size)) (withOurVersion b)
+    write-whole m out (accepted-shape b m e) (omega (arith, size)) (withOurVersion (withReservedClear b))
     (sym bytes ∙ sym (append-nil (messageBytes m)) ∙ ap (λ (l : List ℕ). messageBytes m ++ l) (sym rest))
 
 -- what was read has a good shape and fits the layout's widths, and what is written are bytes
@@ -130,7 +130,7 @@ shown-message (accepted m) r h count e a =
     (m, refl, cc, cc, ap (λ (s : Reading). s .objects) (sym e))
 shown-message (refused n) r h count e a = absurd (let o : _≡_ {A = ℕ} 0 1 = cc (ap (λ (s : Reading). s .outcome) e) in omega arith)
 
--- reading is refused by a number exactly when that line of the table is the first that holds; there are lines 1 to 5
+-- reading is refused by a number exactly when that line of the table is the first that holds; there are lines 1 to 5, of which 4 is withdrawn
 pub read-refused-by : (b : List ℕ) (k : ℕ) → (readOutcome b ≡ refused (1 + k)) ↔ (firstAt (readLines b) k ≡ true)
 unfolding readRefusal
 read-refused-by b k = (

@@ -4,6 +4,7 @@ pub mod Laws
 pub mod Objects
 pub mod Refusals
 pub mod Requests
+pub mod Reserved
 pub mod RoundTrip
 pub mod Rows
 pub mod Rule

@@ -11,7 +11,7 @@ use borrow.Author.Tests.{eq-eqb, ne-eqb, le-leb, lt-leb}
 use Rattle.laws.specs.Lines.{firstLine}
 use Rattle.laws.specs.Padded.{padded}
 use Rattle.laws.proofs.Padded.{padded-at}
-use Rattle.messages.specs.Layout.{objectsOf, structured, major, reserved, headOf}
+use Rattle.messages.specs.Layout.{bits, objectsOf, structured, major, headOf}
 use Rattle.messages.specs.Table.{shape}
 use Rattle.messages.specs.Reading.{wrongLength, headerLines, headerIn, objectsIn, readRefusal, messageIn, accepted, refused, outcome, readOutcome, shown}
 use Rattle.messages.specs.declared.ReadAs.the-variants.{Message as ReadAs·Message}
@@ -19,14 +19,10 @@ use Rattle.messages.specs.declared.Head.{Head}
 use Rattle.messages.specs.declared.Reading.{Reading}
 use Rattle.messages.proofs.Objects.{length-objects}
 
-abbrev headOfParts : ℕ → Head
-headOfParts w = record { svid = w / 65536; command = w % 32; kind = w / 64 % 4; position = w / 256 % 8 }
-
-pub head-of : (w : ℕ) → w < 2 ^ 32 → headOfParts w ≡ headOf w
+pub head-of : (w s c k p : ℕ) → s ≡ bits 31 16 w → c ≡ bits 4 0 w → k ≡ bits 7 6 w → p ≡ bits 10 8 w →
+    _≡_ {A = Head} (record { svid = s; command = c; kind = k; position = p }) (headOf w)
 unfolding headOf
-head-of w h =
-    let s : w / 65536 % 65536 ≡ w / 65536 = mod-eq-of-lt (omega arith) in
-    rw (s, div-one)
+head-of w s c k p es ec ek ep = λ i. record { svid = es i; command = ec i; kind = ek i; position = ep i }
 
 module _ (header count : ℕ) where
   pub lines-2 : structured header ≡ 0 → 2 ≡ firstLine 2 (headerLines header count)
@@ -35,18 +31,15 @@ module _ (header count : ℕ) where
   pub lines-3 : (structured header ≡ 0 → ⊥) → 2 ≤ major header → 3 ≡ firstLine 2 (headerLines header count)
   lines-3 s e = simp (ne-eqb _ _ s, le-leb _ _ e)
 
-  pub lines-4 : (structured header ≡ 0 → ⊥) → major header < 2 → reserved header ≡ 1 → 4 ≡ firstLine 2 (headerLines header count)
-  lines-4 s m e = simp (ne-eqb _ _ s, lt-leb _ _ m, eq-eqb _ _ e)
-
   pub lines-5 :
-      (structured header ≡ 0 → ⊥) → major header < 2 → (reserved header ≡ 1 → ⊥) → false ≡ shape (headOf header) count →
+      (structured header ≡ 0 → ⊥) → major header < 2 → false ≡ shape (headOf header) count →
       5 ≡ firstLine 2 (headerLines header count)
-  lines-5 s m r e = simp (ne-eqb _ _ s, lt-leb _ _ m, ne-eqb _ _ r, ← e)
+  lines-5 s m e = simp (ne-eqb _ _ s, lt-leb _ _ m, ← e)
 
   pub lines-none :
-      (structured header ≡ 0 → ⊥) → major header < 2 → (reserved header ≡ 1 → ⊥) → true ≡ shape (headOf header) count →
+      (structured header ≡ 0 → ⊥) → major header < 2 → true ≡ shape (headOf header) count →
       0 ≡ firstLine 2 (headerLines header count)
-  lines-none s m r e = simp (ne-eqb _ _ s, lt-leb _ _ m, ne-eqb _ _ r, ← e)
+  lines-none s m e = simp (ne-eqb _ _ s, lt-leb _ _ m, ← e)
 
 pub objects-in : (b : List ℕ) (p q r s t u : ℕ) →
     p ≡ getD (objectsOf b) 1 0 → q ≡ getD (objectsOf b) 2 0 → r ≡ getD (objectsOf b) 3 0 →

@@ -2,7 +2,7 @@
 use mathlib.Core.Path.{_≡_, refl, ap, ap₂, subst, sym, _∙_}
 use mathlib.Core.Bool.{Bool, true, false, cond, _&&_}
 use mathlib.Core.List.{List, [], _∷_, _++_}
-use Prim.Native.Nat.{ℕ, zero, suc, _+_, _*_, _/_, _%_, _^_, _<_, _≤_}
+use Prim.Native.Nat.{ℕ, zero, suc, _+_, _*_, _-_, _/_, _%_, _^_, _<_, _≤_}
 use native.Mathlib.Nat.{mod-lt}
 use native.Mathlib.Omega.{arith}
 use lib.Dec.{leb, eqb}
@@ -11,12 +11,12 @@ use borrow.Author.Tests.{eqb-true, eqb-false, leb-true, not-false}
 use Rattle.laws.specs.Bounded.{Below}
 use Rattle.laws.specs.Lines.{firstLine}
 use Rattle.laws.proofs.Lines.{and-left, and-right, none-holds}
-use Rattle.messages.specs.Layout.{bits, objectOf, bytesOfObject, objectsOf, bytesOf, structured, reserved, headOf, headerOf, Message, Representable, messageBytes, withOurVersion}
+use Rattle.messages.specs.Layout.{bits, objectOf, bytesOfObject, objectsOf, bytesOf, structured, reserved, headOf, headerOf, Message, Representable, messageBytes, withOurVersion, withReservedClear}
 use Rattle.messages.specs.Table.{shape}
 use Rattle.messages.specs.Reading.{headerLines, headerIn, readLines, readRefusal, messageIn, accepted, refused, outcome, readOutcome}
 use Rattle.messages.specs.Writing.{wellShaped}
 use Rattle.messages.specs.declared.Head.{Head}
-use Rattle.messages.proofs.Header.{header-below, header-structured, header-major, header-reserved, head-header, header-head}
+use Rattle.messages.proofs.Header.{header-below, header-structured, header-major, head-header, header-head}
 use Rattle.messages.proofs.Objects.{objects-below, bytes-below, objects-bytes, bytes-objects, object-bytes, length-objects}
 use Rattle.messages.proofs.Refusals.{right-length, lines-none, read-accepted, refusal-header}
 use Rattle.messages.proofs.Rule.{shape-command, shape-kind, shape-position, shape-count}
@@ -59,7 +59,6 @@ module _ (m : Message) (fits : Representable m) (good : wellShaped m ≡ true) w
       lines-none (headerOf (m .head)) (length (m .objects) + 1)
       (λ z. omega (arith, header-structured (m .head) (fits .svid-fits) good-command good-kind good-position))
       (omega (arith, header-major (m .head) (fits .svid-fits) good-command good-kind good-position))
-      (λ z. omega (arith, header-reserved (m .head) (fits .svid-fits) good-command good-kind good-position))
       (sym (ap (λ (h : Head). shape h (length (m .objects) + 1)) head-again ∙ good-shape))
 
   not-refused : readRefusal (messageBytes m) ≡ 0
@@ -110,9 +109,6 @@ module _ (b : List ℕ) (m : Message) (e : readOutcome b ≡ accepted m) where
   is-structured : structured (headerIn b) ≡ 1
   is-structured = let no = eqb-false (structured (headerIn b)) 0 (line 1) in omega arith
 
-  is-clear : reserved (headerIn b) ≡ 0
-  is-clear = let no = eqb-false (reserved (headerIn b)) 1 (line 3) in omega arith
-
   has-shape : shape (headOf (headerIn b)) (length b / 4) ≡ true
   has-shape = not-false _ (line 4)
 
@@ -137,23 +133,24 @@ pub message-bytes : (m : Message) → Below 256 (messageBytes m)
 unfolding messageBytes
 message-bytes m = bytes-below (headerOf (m .head) ∷ m .objects)
 
--- four bytes are the header, and its second is where the version stands
-bytes-again : (b : List ℕ) → Below 256 b → 4 ≤ length b → length b % 4 ≡ 0 → structured (headerIn b) ≡ 1 → reserved (headerIn b) ≡ 0 →
-    messageBytes (messageIn b) ≡ withOurVersion b
-unfolding messageBytes messageIn withOurVersion objectsOf bytesOf
-bytes-again [] below l e s c = absurd (omega arith)
-bytes-again (p ∷ []) below l e s c = absurd (omega arith)
-bytes-again (p ∷ q ∷ []) below l e s c = absurd (omega arith)
-bytes-again (p ∷ q ∷ r ∷ []) below l e s c = absurd (omega arith)
-bytes-again (p ∷ q ∷ r ∷ t ∷ rest) below l e s c =
+-- four bytes are the header: bit 5 stands in its first, the version in its second
+bytes-again : (b : List ℕ) → Below 256 b → 4 ≤ length b → length b % 4 ≡ 0 → structured (headerIn b) ≡ 1 →
+    messageBytes (messageIn b) ≡ withOurVersion (withReservedClear b)
+unfolding messageBytes messageIn withOurVersion withReservedClear objectsOf bytesOf
+bytes-again [] below l e s = absurd (omega arith)
+bytes-again (p ∷ []) below l e s = absurd (omega arith)
+bytes-again (p ∷ q ∷ []) below l e s = absurd (omega arith)
+bytes-again (p ∷ q ∷ r ∷ []) below l e s = absurd (omega arith)
+bytes-again (p ∷ q ∷ r ∷ t ∷ rest) below l e s =
+    let cleared : ℕ = p - reserved p * 2 ^ 5 in
     let version : ℕ = bits 7 7 q * 2 ^ 7 + 1 * 2 ^ 5 + 0 * 2 ^ 3 + bits 2 0 q in
-    let header : headerOf (headOf (objectOf p q r t)) ≡ objectOf p version r t = header-head p q r t (below 0) (below 1) (below 2) (below 3) s c in
-    let first : bytesOfObject (headerOf (headOf (objectOf p q r t))) ≡ p ∷ version ∷ r ∷ t ∷ [] =
-    ap bytesOfObject header ∙ object-bytes p version r t (below 0) (omega arith) (below 2) (below 3) in
+    let header : headerOf (headOf (objectOf p q r t)) ≡ objectOf cleared version r t = header-head p q r t (below 0) (below 1) (below 2) (below 3) s in
+    let first : bytesOfObject (headerOf (headOf (objectOf p q r t))) ≡ cleared ∷ version ∷ r ∷ t ∷ [] =
+    ap bytesOfObject header ∙ object-bytes cleared version r t (omega (arith, below 0)) (omega arith) (below 2) (below 3) in
     let others : bytesOf (objectsOf rest) ≡ rest = bytes-objects rest (λ k. below (suc (suc (suc (suc k))))) (omega arith) in
     ap₂ (λ (x y : List ℕ). x ++ y) first others
 
-pub bytes-read : (b : List ℕ) (m : Message) → Below 256 b → readOutcome b ≡ accepted m → messageBytes m ≡ withOurVersion b
+pub bytes-read : (b : List ℕ) (m : Message) → Below 256 b → readOutcome b ≡ accepted m → messageBytes m ≡ withOurVersion (withReservedClear b)
 bytes-read b m below e =
     ap messageBytes (sym (is-in b m e)) ∙
-    bytes-again b below (accepted-length b m e .0) (accepted-length b m e .2) (is-structured b m e) (is-clear b m e)
+    bytes-again b below (accepted-length b m e .0) (accepted-length b m e .2) (is-structured b m e)

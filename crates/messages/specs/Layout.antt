@@ -48,6 +48,7 @@ structured w = bits 15 15 w
 abbrev pub major : ℕ → ℕ
 major w = bits 14 13 w
 
+-- bit 5, which is sent as 0 and means nothing when it is read (02, R-2)
 abbrev pub reserved : ℕ → ℕ
 reserved w = bits 5 5 w
 
@@ -75,3 +76,7 @@ messageBytes m = bytesOf (headerOf (m .head) ∷ m .objects)
 -- the same bytes with our version in the header: byte 1 has bit 15, major, minor and position
 unfoldable pub withOurVersion : List ℕ → List ℕ
 withOurVersion b = set b 1 (bits 7 7 (getD b 1 0) * 2 ^ 7 + 1 * 2 ^ 5 + 0 * 2 ^ 3 + bits 2 0 (getD b 1 0))
+
+-- the same bytes with bit 5 of the header cleared: it stands in byte 0
+unfoldable pub withReservedClear : List ℕ → List ℕ
+withReservedClear b = set b 0 (getD b 0 0 - reserved (getD b 0 0) * 2 ^ 5)

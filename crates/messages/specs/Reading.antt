@@ -1,12 +1,12 @@
--- Reading a message: refusals 1 to 5 in their order, or the message (01, "Message layout" and "Refusal numbers").
+-- Reading a message: refusals 1, 2, 3 and 5 in their order, or the message (01, "Message layout" and "Refusal numbers"; 02, R-2).
 use Prim.Native.Nat.{ℕ, _/_, _%_}
-use mathlib.Core.Bool.{Bool, cond, not, _&&_}
+use mathlib.Core.Bool.{Bool, false, cond, not, _&&_}
 use mathlib.Core.List.{List, [], _∷_}
 use lib.Dec.{leb, eqb}
 use lib.ListN.{length, getD, drop, replicate}
 use Rattle.laws.specs.Lines.{firstLine}
 use Rattle.laws.specs.Padded.{padded}
-use Rattle.messages.specs.Layout.{objectsOf, structured, major, reserved, headOf, Message}
+use Rattle.messages.specs.Layout.{objectsOf, structured, major, headOf, Message}
 use Rattle.messages.specs.Table.{shape}
 use Rattle.messages.specs.declared.Reading.{Reading}
 use Rattle.messages.specs.declared.ReadAs.{ReadAs}
@@ -25,9 +25,9 @@ unstructured header = eqb (structured header) 0
 abbrev pub wrongMajor : ℕ → Bool
 wrongMajor header = leb 2 (major header)
 
--- bit 5 is 1
-abbrev pub reservedSet : ℕ → Bool
-reservedSet header = eqb (reserved header) 1
+-- line 4 of 01, a header whose bit 5 is 1: 02 withdraws it, and it holds of none
+abbrev pub withdrawn : Bool
+withdrawn = false
 
 -- wrong shape by the table
 abbrev pub wrongShape : ℕ → ℕ → Bool
@@ -36,7 +36,7 @@ wrongShape header count = not (shape (headOf header) count)
 -- lines 2 to 5, by the header and the number of objects
 abbrev pub headerLines : ℕ → ℕ → List Bool
 headerLines header count =
-    unstructured header ∷ wrongMajor header ∷ reservedSet header ∷ wrongShape header count ∷ []
+    unstructured header ∷ wrongMajor header ∷ withdrawn ∷ wrongShape header count ∷ []
 
 -- object 1
 abbrev pub headerIn : List ℕ → ℕ

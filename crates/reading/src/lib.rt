@@ -1,4 +1,4 @@
-// Reading a message off bytes: document 01, "Message layout" and refusals 1 to 5. What reading gives is defined in `messages`.
+// Reading a message off bytes: document 01, "Message layout" and refusals 1, 2, 3 and 5. What reading gives is defined in `messages`.
 mod object;
 
 ghost use mathlib.Core.Path.{_≡_};
@@ -23,7 +23,7 @@ fn head_of(header: u32) -> Head
     }
 }
 
-// Refusals 2 to 5, by the header and the number of objects; 0 where there is none.
+// Refusals 2, 3 and 5, by the header and the number of objects; 0 where there is none. Bit 5 is not looked at (02, R-2).
 fn header_refusal(header: u32, count: u8) -> u8
     ensures { λ r. ⌜ r ≡ firstLine 2 (headerLines header count) ⌝ }
 {
@@ -32,9 +32,6 @@ fn header_refusal(header: u32, count: u8) -> u8
     }
     if 2 <= header / 8192 % 4 {
         return 3;
-    }
-    if header / 32 % 2 == 1 {
-        return 4;
     }
     if shape(head_of(header), count) { 0 } else { 5 }
 }

@@ -1,9 +1,9 @@
 -- A stretch is the only one, and what its refusal says: any fault of the file first, then 12, for an SVID that a sound file does not list.
-use mathlib.Core.Logic.{_↔_}
+use mathlib.Core.Logic.{_↔_, _⊎_, inl, inr}
 use mathlib.Core.Path.{_≡_, refl, ap, ap₂, sym, _∙_}
 use mathlib.Core.Bool.{Bool, true, false, cond, _||_}
 use mathlib.Core.List.{List, [], _∷_}
-use Prim.Native.Nat.{ℕ, _+_}
+use Prim.Native.Nat.{ℕ, _+_, _≤_}
 use native.Mathlib.Omega.{arith}
 use lib.Dec.{eqb}
 use lib.ListN.{length}
@@ -15,9 +15,7 @@ use Rattle.laptop.specs.Catalogue.{Entry, Catalogue}
 use Rattle.catalogue.specs.Bytes.{modesBytes, entryBytes}
 use Rattle.judging.specs.Judging.{Judgement, judgementOf}
 use Rattle.judging.specs.Walking.{svidsOf}
-use Rattle.catalogue_laws.specs.Given.{Given}
-use Rattle.catalogue_laws.specs.Given.Given.{unknown, cut, wrong, behind-end, sound}
-use Rattle.catalogue_laws.proofs.Given.{given-exactly}
+use Rattle.catalogue_laws.proofs.Given.{only-these as File·only-these}
 use Rattle.stretches.specs.Stretches.{notListed, svidSize, refusedAt, placeIn, entriesAt, stretchIn, Stretched}
 use Rattle.stretches.specs.declared.Place.{Place}
 use Rattle.stretches.specs.declared.Stretch.{Stretch}
@@ -65,15 +63,7 @@ place-refusal svid at (entry ∷ entries) = go (eqb (entry .svid) svid) (place-r
     go true further = refl
     go false further = further
 
--- no fault of a file has that number
-fault-other : {bytes : List ℕ} {number at : ℕ} {c : Catalogue} → Given bytes number at c → number ≡ notListed → ⊥
-fault-other (unknown p e) z = omega (arith, z)
-fault-other (cut p e) z = omega (arith, z)
-fault-other (wrong p r n e w) z = omega (arith, z)
-fault-other (behind-end p n e right more) z = omega (arith, z)
-fault-other (sound p n e right all) z = omega (arith, z)
-
--- so 12 says that the file is sound, and the SVID is not in it
+-- 12 is the number of no fault: it says that the file is sound, and the SVID is not in it
 pub not-listed-exactly : (bytes : List ℕ) (svid : ℕ) →
     (stretchIn (judgementOf bytes) svid .refusal ≡ notListed) ↔
     ((judgementOf bytes .refusal ≡ 0) × (isIn svid (svidsOf (judgementOf bytes .catalogue .entries)) ≡ false))
@@ -86,6 +76,10 @@ not-listed-exactly bytes svid = (λ e. go e (eqb (j .refusal) 0) refl, λ both. 
     told accepted =
         ap (λ (p : Place). p .refusal) (sound-place bytes svid accepted) ∙ place-refusal svid (entriesAt (j .catalogue)) (j .catalogue .entries)
 
+    no-fault : (number : ℕ) → number ≡ notListed → (number ≡ 0) ⊎ ((15 ≤ number) × (number ≤ 18)) → ⊥
+    no-fault number e (inl z) = omega arith
+    no-fault number e (inr z) = omega arith
+
     none : (t : Bool) → cond t 0 notListed ≡ notListed → t ≡ false
     none true e = absurd (omega (arith, e))
     none false e = refl
@@ -95,4 +89,28 @@ not-listed-exactly bytes svid = (λ e. go e (eqb (j .refusal) 0) refl, λ both. 
     go e true f = let accepted = eqb-true (j .refusal) 0 f in (accepted, none _ (sym (told accepted) ∙ e))
     go e false f =
         let fault = ap (λ (p : Place). p .refusal) (fault-first bytes svid (eqb-false (j .refusal) 0 f)) in
-        absurd (fault-other (given-exactly bytes (j .refusal) (j .at) (j .catalogue) .0 refl) (sym fault ∙ e))
+        absurd (no-fault (j .refusal) (sym fault ∙ e) (File·only-these bytes))
+
+-- there are no other numbers than 12 and 15 to 18
+pub only-these : (bytes : List ℕ) (svid : ℕ) → let number : ℕ = stretchIn (judgementOf bytes) svid .refusal in
+    (number ≡ 0) ⊎ (number ≡ notListed) ⊎ ((15 ≤ number) × (number ≤ 18))
+unfolding stretchIn
+only-these bytes svid = go (eqb (j .refusal) 0) (File·only-these bytes)
+  where
+    j : Judgement
+    j = judgementOf bytes
+
+    listed : (t : Bool) → let number : ℕ = cond t 0 notListed in (number ≡ 0) ⊎ (number ≡ notListed) ⊎ ((15 ≤ number) × (number ≤ 18))
+    listed true = inl refl
+    listed false = inr (inl refl)
+
+    place : (at : ℕ) (entries : List Entry) → let number : ℕ = placeIn svid at entries .refusal in
+        (number ≡ 0) ⊎ (number ≡ notListed) ⊎ ((15 ≤ number) × (number ≤ 18))
+    place at entries = rw (place-refusal svid at entries) (listed (isIn svid (svidsOf entries)))
+
+    go : (t : Bool) → (j .refusal ≡ 0) ⊎ ((15 ≤ j .refusal) × (j .refusal ≤ 18)) →
+        let number : ℕ = cond t (placeIn svid (entriesAt (j .catalogue)) (j .catalogue .entries)) (refusedAt (j .refusal) (j .at)) .refusal in
+        (number ≡ 0) ⊎ (number ≡ notListed) ⊎ ((15 ≤ number) × (number ≤ 18))
+    go true fault = place (entriesAt (j .catalogue)) (j .catalogue .entries)
+    go false (inl none) = inl none
+    go false (inr fault) = inr (inr fault)

@@ -1,0 +1,127 @@
+-- Bit 5 of a message's header means nothing to the functions for C, and none of them returns 4 (02, R-2).
+use mathlib.Core.Logic.{_↔_, _⊎_, inl, inr}
+use mathlib.Core.Path.{_≡_, ap, subst, sym, _∙_}
+use mathlib.Core.List.{List, []}
+use Prim.Native.Nat.{ℕ, _%_, _≤_}
+use native.Mathlib.Omega.{arith}
+use lib.ListN.{length}
+use denote.Triple.Both.{Both}
+use Rattle.laws.specs.Lent.{Lent, lent}
+use Rattle.messages.specs.Layout.{withReservedClear}
+use Rattle.messages.specs.Reading.{Outcome, readOutcome}
+use Rattle.messages.specs.declared.request.Request.{Request}
+use Rattle.messages.proofs.Reserved.{reserved-ignored}
+use Rattle.dock.specs.Dock.{decideMessage, decidePolicyAnswer, decideSent, decideFailed}
+use Rattle.dock.specs.declared.Policy.{Policy}
+use Rattle.dock_laws.specs.Effects.{load, policyAnswer, sent, failed}
+use Rattle.dock_laws.specs.Effects.{message as Dock·message}
+use Rattle.dock_laws.proofs.Given.{never-four as Dock·never-four}
+use Rattle.laptop.specs.State.{Memory}
+use Rattle.laptop_laws.specs.Effects.{Call, message, next, startOver, drop, enter, exit, timer, protocolError, effectOf}
+use Rattle.laptop_laws.proofs.CatalogueGiven.{catalogue-never-four}
+use Rattle.laptop_laws.proofs.Given.{never-four}
+use Rattle.catalogue.specs.Bytes.{HeldCatalogue}
+use Rattle.hearing.specs.Hearing.{heard}
+use Rattle.owner.specs.Owner.{decideNext, decideStartOver, decideDrop, decideEnter, decideExit}
+use Rattle.timers.specs.Timers.{decideTimer, decideError}
+use Rattle.rebuilding.proofs.Laws.{only-these}
+use Rattle.stretches.proofs.Laws.{only-these as Stretch·only-these}
+use Rattle.controller.specs.CatalogueCall.{CatalogueCall}
+use Rattle.controller.specs.CatalogueReading.{withOffset, readOf, ReadCall, placeOf, StretchCall}
+use Rattle.controller.specs.DockCalls.{dockLent, DockSendsNothing, DockSends, DockLoads}
+use Rattle.controller.specs.Laptop.{laptopFrom}
+use Rattle.controller.specs.LaptopCalls.{LaptopStep, LaptopSendsNothing, LaptopSends, LaptopHears}
+use Rattle.controller.proofs.Refusing.{nothingLent}
+
+-- what is promised of a message with bit 5 clear is promised of the message with bit 5 set, and the other way round: the number, the state, what is
+-- handed over, and all that is lent
+pub dock-message-same : (bytes : List ℕ) {number : ℕ} {state identity svids out : Lent (List ℕ)} {handed : Lent ℕ} →
+    DockSends (λ d. decideMessage d (readOutcome (withReservedClear bytes))) number state identity svids out handed ↔
+    DockSends (λ d. decideMessage d (readOutcome bytes)) number state identity svids out handed
+dock-message-same bytes {number} {state} {identity} {svids} {out} {handed} =
+    (subst promise (reserved-ignored bytes), subst promise (sym (reserved-ignored bytes)))
+  where
+    promise : Outcome → Type 0
+    promise o = DockSends (λ d. decideMessage d o) number state identity svids out handed
+
+module _ {number : ℕ} {state handed : Lent (List ℕ)} {memory : Both Memory Memory} where
+  heard-same : (a b : List ℕ) → readOutcome a ≡ readOutcome b → LaptopHears a number state memory handed → LaptopHears b number state memory handed
+  heard-same a b e p = record {
+    step-is = subst (λ (o : Outcome). LaptopStep (heard (laptopFrom (lent state)) (memory .entry) o .step) number state handed) e (p .step-is);
+    memory-is = p .memory-is ∙ ap (λ (o : Outcome). heard (laptopFrom (lent state)) (memory .entry) o .after) e;
+  }
+
+  pub laptop-message-same : (bytes : List ℕ) → LaptopHears (withReservedClear bytes) number state memory handed ↔ LaptopHears bytes number state memory handed
+  laptop-message-same bytes = (heard-same _ _ (reserved-ignored bytes), heard-same _ _ (sym (reserved-ignored bytes)))
+
+-- the dock's functions do not return 4,
+module _ {number : ℕ} {state identity svids : Lent (List ℕ)} {handed : Lent ℕ} (four : number ≡ 4) where
+  pub dock-message-not-4 : (bytes : List ℕ) {out : Lent (List ℕ)} → DockSends (λ d. decideMessage d (readOutcome bytes)) number state identity svids out handed → ⊥
+  dock-message-not-4 bytes {out} p = Dock·never-four (Dock·message bytes) (dockLent state identity svids) (lent out) (sym (p .step-is .number-is) ∙ four)
+
+  pub dock-policy-answer-not-4 : (policy : Policy) (r : Request) (objects : List ℕ) {out : Lent (List ℕ)} →
+      DockSends (λ d. decidePolicyAnswer d (d .standing) policy r objects) number state identity svids out handed → ⊥
+  dock-policy-answer-not-4 policy r objects {out} p =
+      Dock·never-four (policyAnswer policy r objects) (dockLent state identity svids) (lent out) (sym (p .step-is .number-is) ∙ four)
+
+  pub dock-sent-not-4 : DockSendsNothing (λ d. decideSent d (d .standing)) number state identity svids handed → ⊥
+  dock-sent-not-4 p = Dock·never-four sent (dockLent state identity svids) [] (sym (p .step-is .number-is) ∙ four)
+
+  pub dock-failed-not-4 : DockSendsNothing (λ d. decideFailed d (d .standing)) number state identity svids handed → ⊥
+  dock-failed-not-4 p = Dock·never-four failed (dockLent state identity svids) [] (sym (p .step-is .number-is) ∙ four)
+
+  pub dock-load-not-4 : {newIdentity newSvids : List ℕ} → DockLoads newIdentity newSvids number state identity svids handed → ⊥
+  dock-load-not-4 {newIdentity} {newSvids} p =
+      Dock·never-four (load newIdentity newSvids) (dockLent state identity svids) [] (sym (p .step-is .number-is) ∙ four)
+
+-- nor the laptop's,
+module _ {number : ℕ} {state handed : Lent (List ℕ)} (four : number ≡ 4) where
+  step-not-4 : (c : Call) (m : Memory) (out : List ℕ) → LaptopStep (effectOf c (laptopFrom (lent state)) m out .step) number state handed → ⊥
+  step-not-4 c m out p = never-four c (laptopFrom (lent state)) m out (sym (p .number-is) ∙ four)
+
+  module _ (m : Memory) {out : Lent (List ℕ)} where
+    pub next-not-4 : LaptopSends (λ l. decideNext l (m .svids) (m .entered) (length (m .run)) (length (m .heldRun))) number state out handed → ⊥
+    next-not-4 p = step-not-4 next m (lent out) (p .step-is)
+
+    pub start-over-not-4 : LaptopSends (λ l. decideStartOver l (m .entered) (length (m .run)) (length (m .heldRun))) number state out handed → ⊥
+    start-over-not-4 p = step-not-4 startOver m (lent out) (p .step-is)
+
+    pub drop-not-4 : LaptopSends (λ l. decideDrop l (length (m .run)) (length (m .heldRun))) number state out handed → ⊥
+    drop-not-4 p = step-not-4 drop m (lent out) (p .step-is)
+
+    pub enter-not-4 : (svid position : ℕ) →
+        LaptopSends (λ l. decideEnter l (m .heldSvids) (m .heldModes) (m .entered) (length (m .run)) (length (m .heldRun)) svid position) number state out handed → ⊥
+    enter-not-4 svid position p = step-not-4 (enter svid position) m (lent out) (p .step-is)
+
+    pub exit-not-4 : (svid position : ℕ) →
+        LaptopSends (λ l. decideExit l (m .heldSvids) (m .heldModes) (m .entered) (length (m .run)) (length (m .heldRun)) svid position) number state out handed → ⊥
+    exit-not-4 svid position p = step-not-4 (exit svid position) m (lent out) (p .step-is)
+
+  pub timer-not-4 : (first last : ℕ) → LaptopSendsNothing (λ l. decideTimer first last l (l .wait)) number state handed → ⊥
+  timer-not-4 first last p = step-not-4 (timer first last) nothingLent [] (p .step-is)
+
+  pub error-not-4 : LaptopSendsNothing (λ l. decideError l (l .wait)) number state handed → ⊥
+  error-not-4 p = step-not-4 protocolError nothingLent [] (p .step-is)
+
+  pub message-not-4 : {bytes : List ℕ} {memory : Both Memory Memory} → LaptopHears bytes number state memory handed → ⊥
+  message-not-4 {bytes} {memory} p = step-not-4 (message bytes) (memory .entry) [] (p .step-is)
+
+-- nor those of the catalogue; where the offset is above the number, the low eight bits are not 4
+pub catalogue-not-4 : {held : HeldCatalogue} {run : List ℕ} {number : ℕ} {out : Lent (List ℕ)} {bytes : Lent ℕ} → number ≡ 4 →
+    CatalogueCall held run number out bytes → ⊥
+catalogue-not-4 {held} {run} {out = out} four p = catalogue-never-four held (length run) (length (lent out)) (sym (p .number-is) ∙ four)
+
+low-not-4 : (number other at result : ℕ) → (number ≡ 0) ⊎ (number ≡ other) ⊎ ((15 ≤ number) × (number ≤ 18)) → 11 ≤ other → other ≤ 12 →
+    result ≡ withOffset number at → result % 256 ≡ 4 → ⊥
+low-not-4 number other at result (inl z) least most e four = omega arith
+low-not-4 number other at result (inr (inl z)) least most e four = omega arith
+low-not-4 number other at result (inr (inr z)) least most e four = omega arith
+
+pub catalogue-read-not-4 : {bytes : List ℕ} {result : ℕ} {svids modes identity run sizes : Lent (List ℕ)} → result % 256 ≡ 4 →
+    ReadCall bytes result svids modes identity run sizes → ⊥
+catalogue-read-not-4 {bytes} {result} {run = run} four p =
+    low-not-4 (readOf bytes (lent run) .refusal) 11 (readOf bytes (lent run) .at) result (only-these bytes (length (lent run))) (omega arith) (omega arith) (p .result-is) four
+
+pub catalogue-stretch-not-4 : {bytes : List ℕ} {svid result : ℕ} {found : Lent ℕ} → result % 256 ≡ 4 → StretchCall bytes svid result found → ⊥
+catalogue-stretch-not-4 {bytes} {svid} {result} four p =
+    low-not-4 (placeOf bytes svid .refusal) 12 (placeOf bytes svid .at) result (Stretch·only-these bytes svid) (omega arith) (omega arith) (p .result-is) four

@@ -1,0 +1,73 @@
+-- Bit 5 means nothing when it is read, and refusal 4 is never given (02, R-2).
+use mathlib.Core.Path.{_≡_, refl, ap₂, sym, _∙_}
+use mathlib.Core.Bool.{Bool, true, false, cond, not, false≢true}
+use mathlib.Core.List.{List, [], _∷_}
+use Prim.Native.Nat.{ℕ, _*_, _-_, _/_, _^_}
+use native.Mathlib.Omega.{arith}
+use lib.Dec.{ltb}
+use lib.ListN.{length, drop, length-set}
+use Rattle.laws.specs.Lines.{firstAt}
+use Rattle.messages.specs.Layout.{objectOf, objectsOf, reserved, structured, major, headOf, Message, messageBytes, withReservedClear}
+use Rattle.messages.specs.Reading.{wrongLength, unstructured, wrongMajor, wrongShape, headerIn, readLines, readRefusal, messageIn, refused, outcome, readOutcome}
+use Rattle.messages.specs.Writing.{wellShaped, writeRefusal}
+use Rattle.messages.proofs.Header.{clear-structured, clear-major, clear-head}
+use Rattle.messages.proofs.Laws.{read-refused-by}
+
+-- what a header says whatever its bit 5, the header among bytes says
+module _ {A : Type 0} (says : ℕ → A) (same : (p q r s : ℕ) → says (objectOf (p - reserved p * 2 ^ 5) q r s) ≡ says (objectOf p q r s)) where
+  same-said : (b : List ℕ) → says (headerIn (withReservedClear b)) ≡ says (headerIn b)
+  unfolding withReservedClear objectsOf
+  same-said [] = refl
+  same-said (p ∷ []) = refl
+  same-said (p ∷ q ∷ []) = refl
+  same-said (p ∷ q ∷ r ∷ []) = refl
+  same-said (p ∷ q ∷ r ∷ s ∷ rest) = same p q r s
+
+same-objects : (b : List ℕ) → drop 1 (objectsOf (withReservedClear b)) ≡ drop 1 (objectsOf b)
+unfolding withReservedClear objectsOf
+same-objects [] = refl
+same-objects (p ∷ []) = refl
+same-objects (p ∷ q ∷ []) = refl
+same-objects (p ∷ q ∷ r ∷ []) = refl
+same-objects (p ∷ q ∷ r ∷ s ∷ rest) = refl
+
+same-message : (b : List ℕ) → messageIn (withReservedClear b) ≡ messageIn b
+unfolding messageIn
+same-message b = λ i. record { head = same-said headOf clear-head b i; objects = same-objects b i }
+
+same-length : (b : List ℕ) → length (withReservedClear b) ≡ length b
+unfolding withReservedClear
+same-length b = length-set b 0 _
+
+same-refusal : (b : List ℕ) → readRefusal (withReservedClear b) ≡ readRefusal b
+unfolding readRefusal
+same-refusal b =
+    rw (same-length b, same-said structured clear-structured b, same-said major clear-major b, same-said headOf clear-head b)
+
+-- a message with bit 5 set is read as the one with bit 5 clear: the same number, or the same message
+pub reserved-ignored : (b : List ℕ) → readOutcome (withReservedClear b) ≡ readOutcome b
+unfolding readOutcome
+reserved-ignored b = ap₂ outcome (same-refusal b) (same-message b)
+
+-- line 4 is never the first, and so no bytes are refused 4
+pub never-line-4 : (b : List ℕ) → firstAt (readLines b) 3 ≡ true → ⊥
+never-line-4 b e = false≢true (sym (go (wrongLength (length b)) (unstructured (headerIn b)) (wrongMajor (headerIn b))) ∙ e)
+  where
+    go : (l u m : Bool) → firstAt (l ∷ u ∷ m ∷ false ∷ wrongShape (headerIn b) (length b / 4) ∷ []) 3 ≡ false
+    go true u m = refl
+    go false true m = refl
+    go false false true = refl
+    go false false false = refl
+
+pub read-never-4 : (b : List ℕ) → readOutcome b ≡ refused 4 → ⊥
+read-never-4 b e = never-line-4 b (read-refused-by b 3 .0 e)
+
+-- nor is writing
+pub write-never-4 : (m : Message) (room : ℕ) → writeRefusal m room ≡ 4 → ⊥
+unfolding writeRefusal
+write-never-4 m room = go (wellShaped m) (ltb room (length (messageBytes m)))
+  where
+    go : (s t : Bool) → _≡_ {A = ℕ} (cond (not s) 5 (cond t 11 0)) 4 → ⊥
+    go true true e = omega arith
+    go true false e = omega arith
+    go false t e = omega arith

@@ -2,11 +2,12 @@
 use mathlib.Core.Path.{_≡_, ap, sym, _∙_}
 use mathlib.Core.List.{List, [], _∷_}
 use Prim.Native.Nat.{ℕ}
+use native.Mathlib.Omega.{arith}
 use lib.ListN.{length, getD}
 use Rattle.laws.specs.Padded.{padded}
 use Rattle.laws.proofs.Padded.{padded-at}
 use Rattle.laws.proofs.Tight.{one-value}
-use Rattle.messages.specs.Layout.{Message}
+use Rattle.messages.specs.Layout.{Message, withReservedClear}
 use Rattle.messages.specs.Reading.{Outcome, accepted, refused, readOutcome, shown, readNumber}
 use Rattle.messages.specs.declared.ReadAs.{ReadAs}
 use Rattle.messages.specs.declared.ReadAs.the-variants.{Refused}
@@ -14,6 +15,7 @@ use Rattle.messages.specs.declared.ReadAs.the-variants.{Message as ReadAs·Mess
 use Rattle.messages.specs.declared.Head.{Head}
 use Rattle.messages.specs.declared.Reading.{Reading}
 use Rattle.messages.proofs.Laws.{shown-refused, shown-message}
+use Rattle.messages.proofs.Reserved.{reserved-ignored, read-never-4}
 use Rattle.exports.specs.Numbers.{numberOf, numbersOf}
 
 pub numbers-refused : (o : Outcome) (r : Reading) (n k : ℕ) (into : List ℕ) → r ≡ shown o → r .outcome ≡ Refused n →
@@ -47,3 +49,17 @@ pub read-only : (bytes into : List ℕ) (number other : ℕ) (after after′ : L
     (after ≡ numbersOf (readOutcome bytes) into) → (other ≡ numberOf (readOutcome bytes)) → (after′ ≡ numbersOf (readOutcome bytes) into) →
     (number ≡ other) × (after ≡ after′)
 read-only bytes into number other after after′ n a n′ a′ = (one-value n n′, one-value a a′)
+
+-- bit 5 means nothing to it, and it never returns 4 (02, R-2)
+pub read-same : (bytes into : List ℕ) →
+    (numberOf (readOutcome (withReservedClear bytes)) ≡ numberOf (readOutcome bytes)) ×
+    (numbersOf (readOutcome (withReservedClear bytes)) into ≡ numbersOf (readOutcome bytes) into)
+read-same bytes into = (ap numberOf (reserved-ignored bytes), ap (λ (o : Outcome). numbersOf o into) (reserved-ignored bytes))
+
+pub never-four : (bytes : List ℕ) → numberOf (readOutcome bytes) ≡ 4 → ⊥
+unfolding numberOf
+never-four bytes = go (readOutcome bytes) (read-never-4 bytes)
+  where
+    go : (o : Outcome) → (o ≡ refused 4 → ⊥) → numberOf o ≡ 4 → ⊥
+    go (accepted m) none e = omega arith
+    go (refused number) none e = none (ap refused e)

@@ -4,7 +4,7 @@ use Prim.Native.Nat.{ℕ, _+_, _*_, _-_, _/_, _%_, _^_, _<_}
 use native.Mathlib.Nat.{div-one, div-div-eq-div-mul}
 use native.Mathlib.Omega.{arith}
 use Rattle.laws.proofs.Fields.{field}
-use Rattle.messages.specs.Layout.{objectOf, bits, structured, major, reserved, headOf, headerOf}
+use Rattle.messages.specs.Layout.{objectOf, bits, structured, major, headOf, headerOf, withoutReserved}
 use Rattle.messages.specs.declared.Head.{Head}
 
 -- the header that we write
@@ -40,7 +40,7 @@ module _ (h : Head) (s : h .svid < 2 ^ 16) (c : h .command < 32) (k : h .kind < 
 -- a header that was read, by its four bytes
 module _ (p q r s : ℕ) (hp : p < 256) (hq : q < 256) (hr : r < 256) (hs : s < 256) where
   pub header-head : structured (objectOf p q r s) ≡ 1 →
-      headerOf (headOf (objectOf p q r s)) ≡ objectOf (p - reserved p * 2 ^ 5) (bits 7 7 q * 2 ^ 7 + 1 * 2 ^ 5 + 0 * 2 ^ 3 + bits 2 0 q) r s
+      headerOf (headOf (objectOf p q r s)) ≡ objectOf (withoutReserved p) (bits 7 7 q * 2 ^ 7 + 1 * 2 ^ 5 + 0 * 2 ^ 3 + bits 2 0 q) r s
   unfolding headOf headerOf
   header-head set =
       let w : ℕ = objectOf p q r s in
@@ -63,7 +63,7 @@ module _ (p q r s : ℕ) where
   header = objectOf p q r s
 
   abbrev cleared : ℕ
-  cleared = objectOf (p - reserved p * 2 ^ 5) q r s
+  cleared = objectOf (withoutReserved p) q r s
 
   low : cleared / 1 % 32 ≡ header / 1 % 32
   low = omega arith

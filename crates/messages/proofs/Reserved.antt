@@ -2,19 +2,19 @@
 use mathlib.Core.Path.{_≡_, refl, ap₂, sym, _∙_}
 use mathlib.Core.Bool.{Bool, true, false, cond, not, false≢true}
 use mathlib.Core.List.{List, [], _∷_}
-use Prim.Native.Nat.{ℕ, _*_, _-_, _/_, _^_}
+use Prim.Native.Nat.{ℕ, _/_}
 use native.Mathlib.Omega.{arith}
 use lib.Dec.{ltb}
 use lib.ListN.{length, drop, length-set}
 use Rattle.laws.specs.Lines.{firstAt}
-use Rattle.messages.specs.Layout.{objectOf, objectsOf, reserved, structured, major, headOf, Message, messageBytes, withReservedClear}
+use Rattle.messages.specs.Layout.{objectOf, objectsOf, structured, major, headOf, Message, messageBytes, withoutReserved, withReservedClear}
 use Rattle.messages.specs.Reading.{wrongLength, unstructured, wrongMajor, wrongShape, headerIn, readLines, readRefusal, messageIn, refused, outcome, readOutcome}
 use Rattle.messages.specs.Writing.{wellShaped, writeRefusal}
 use Rattle.messages.proofs.Header.{clear-structured, clear-major, clear-head}
 use Rattle.messages.proofs.Laws.{read-refused-by}
 
 -- what a header says whatever its bit 5, the header among bytes says
-module _ {A : Type 0} (says : ℕ → A) (same : (p q r s : ℕ) → says (objectOf (p - reserved p * 2 ^ 5) q r s) ≡ says (objectOf p q r s)) where
+module _ {A : Type 0} (says : ℕ → A) (same : (p q r s : ℕ) → says (objectOf (withoutReserved p) q r s) ≡ says (objectOf p q r s)) where
   same-said : (b : List ℕ) → says (headerIn (withReservedClear b)) ≡ says (headerIn b)
   unfolding withReservedClear objectsOf
   same-said [] = refl

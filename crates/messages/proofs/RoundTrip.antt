@@ -2,7 +2,7 @@
 use mathlib.Core.Path.{_≡_, refl, ap, ap₂, subst, sym, _∙_}
 use mathlib.Core.Bool.{Bool, true, false, cond, _&&_}
 use mathlib.Core.List.{List, [], _∷_, _++_}
-use Prim.Native.Nat.{ℕ, zero, suc, _+_, _*_, _-_, _/_, _%_, _^_, _<_, _≤_}
+use Prim.Native.Nat.{ℕ, zero, suc, _+_, _*_, _/_, _%_, _^_, _<_, _≤_}
 use native.Mathlib.Nat.{mod-lt}
 use native.Mathlib.Omega.{arith}
 use lib.Dec.{leb, eqb}
@@ -11,7 +11,7 @@ use borrow.Author.Tests.{eqb-true, eqb-false, leb-true, not-false}
 use Rattle.laws.specs.Bounded.{Below}
 use Rattle.laws.specs.Lines.{firstLine}
 use Rattle.laws.proofs.Lines.{and-left, and-right, none-holds}
-use Rattle.messages.specs.Layout.{bits, objectOf, bytesOfObject, objectsOf, bytesOf, structured, reserved, headOf, headerOf, Message, Representable, messageBytes, withOurVersion, withReservedClear}
+use Rattle.messages.specs.Layout.{bits, objectOf, bytesOfObject, objectsOf, bytesOf, structured, headOf, headerOf, Message, Representable, messageBytes, withOurVersion, withoutReserved, withReservedClear}
 use Rattle.messages.specs.Table.{shape}
 use Rattle.messages.specs.Reading.{headerLines, headerIn, readLines, readRefusal, messageIn, accepted, refused, outcome, readOutcome}
 use Rattle.messages.specs.Writing.{wellShaped}
@@ -142,7 +142,7 @@ bytes-again (p ∷ []) below l e s = absurd (omega arith)
 bytes-again (p ∷ q ∷ []) below l e s = absurd (omega arith)
 bytes-again (p ∷ q ∷ r ∷ []) below l e s = absurd (omega arith)
 bytes-again (p ∷ q ∷ r ∷ t ∷ rest) below l e s =
-    let cleared : ℕ = p - reserved p * 2 ^ 5 in
+    let cleared : ℕ = withoutReserved p in
     let version : ℕ = bits 7 7 q * 2 ^ 7 + 1 * 2 ^ 5 + 0 * 2 ^ 3 + bits 2 0 q in
     let header : headerOf (headOf (objectOf p q r t)) ≡ objectOf cleared version r t = header-head p q r t (below 0) (below 1) (below 2) (below 3) s in
     let first : bytesOfObject (headerOf (headOf (objectOf p q r t))) ≡ cleared ∷ version ∷ r ∷ t ∷ [] =

@@ -15,11 +15,15 @@ pub use object::object_at;
 fn head_of(header: u32) -> Head
     ensures { λ r. ⌜ r ≡ headOf header ⌝ }
 {
+    let svid = (header / 65536) as u16;
+    let command = (header % 32) as u8;
+    let kind = (header / 64 % 4) as u8;
+    let position = (header / 256 % 8) as u8;
     Head {
-        svid: (header / 65536) as u16,
-        command: (header % 32) as u8,
-        kind: (header / 64 % 4) as u8,
-        position: (header / 256 % 8) as u8,
+        svid,
+        command,
+        kind,
+        position,
     }
 }
 

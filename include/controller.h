@@ -41,13 +41,13 @@ typedef uint64_t controller_count;
 #define CONTROLLER_HANDED 7             /* numbers that a laptop's call hands over */
 #define CONTROLLER_SIZES 3              /* numbers that catalogue_read hands over */
 
-/* Refusal numbers. For a message the order is 1 to 5, then 6, 8, 14; 11 for a short run comes before all others, 11 for a short buffer after them. */
+/* Refusal numbers. For a message the order is 1, 2, 3, 5, then 6, 8, 14; 11 for a short run comes before all others, 11 for a short buffer after them. */
 enum controller_refusal {
     CONTROLLER_ACCEPTED = 0,
     CONTROLLER_NOT_WHOLE_OBJECTS = 1, /* the bytes are not 4, 8, .. 28 */
     CONTROLLER_NOT_STRUCTURED = 2,    /* bit 15 of the header is 0 */
     CONTROLLER_UNREAD_MAJOR = 3,      /* the major version is 2 or 3 */
-    CONTROLLER_RESERVED_BIT = 4,      /* bit 5 of the header is 1 */
+    CONTROLLER_RESERVED_BIT = 4,      /* withdrawn: no call gives it, and bit 5 of the header is not looked at */
     CONTROLLER_WRONG_SHAPE = 5,       /* no message has such objects, SVID or position */
     CONTROLLER_NOT_AWAITED = 6,       /* laptop: a REQ other than Attention, or an answer that is not awaited; dock: not a REQ, or Attention */
     CONTROLLER_AWAITING = 7,          /* an owner's call while an answer is awaited */

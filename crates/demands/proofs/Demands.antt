@@ -7,11 +7,11 @@ use mathlib.Core.List.{List, [], _++_}
 use Prim.Native.Nat.{ℕ, _+_, _*_, _/_, _^_, _<_, _≤_}
 use lib.ListN.{length, getD, take, replicate}
 use Rattle.laws.specs.Bounded.{Below}
-use Rattle.messages.specs.Layout.{Message, Representable, messageBytes, withOurVersion, withReservedClear}
+use Rattle.messages.specs.Layout.{Message, Representable, messageBytes, withOurVersion, withReservedClear, withReservedSet}
 use Rattle.messages.specs.Reading.{accepted, readOutcome}
 use Rattle.messages.specs.Writing.{wellShaped, Written}
 use Rattle.messages.proofs.Laws.{write-read}
-use Rattle.messages.proofs.Reserved.{reserved-ignored}
+use Rattle.messages.proofs.Reserved.{reserved-ignored, set-as-clear}
 use Rattle.messages.proofs.RoundTrip.{read-bytes}
 use Rattle.pages.specs.Lists.{isIn, soundList}
 use Rattle.pages.specs.Pages.{halves, page, isLast, remaining, readOff, pages, readPages}
@@ -89,7 +89,9 @@ use Rattle.link.proofs.Cases.{cases-hold}
 use Rattle.link.proofs.Freedoms.{runs-hold}
 use Rattle.unharmed.proofs.Permitted.{permits}
 use Rattle.unharmed.proofs.Premises.{loaded-meets, loaded-has-all, rests-after}
+use Rattle.unharmed.specs.Reserved.{systemWith, Alike, LeadsTo}
 use Rattle.unharmed.proofs.Laws.{begins-with, old-or-whole, never-bad-there, request-taken}
+use Rattle.unharmed.proofs.Reserved.{set-alike, leads-alike, old-or-whole-alike}
 use Rattle.progress.proofs.Asking.{asks-for-what-is-needed}
 use Rattle.progress.proofs.DeadEnd.{no-dead-end}
 use Rattle.progress.proofs.LossFree.{loss-free}
@@ -166,6 +168,9 @@ pub link-permits : (modesOf : ℕ → List ℕ) (s : System) → Permits modesOf
 link-permits = permits
 
 -- RESERVED MEANS IGNORED (02, R-2). A message with bit 5 set gets exactly what it would get with bit 5 clear: when it is read,
+pub read-with-bit-5-set : (bytes : List ℕ) → readOutcome (withReservedSet bytes) ≡ readOutcome (withReservedClear bytes)
+read-with-bit-5-set = set-as-clear
+
 pub read-whatever-bit-5 : (bytes : List ℕ) → readOutcome (withReservedClear bytes) ≡ readOutcome bytes
 read-whatever-bit-5 = reserved-ignored
 
@@ -261,6 +266,10 @@ pub all-there-when-loaded : (modesOf : ℕ → List ℕ) (identity svids : List 
     HasAll modesOf (loaded identity svids)
 all-there-when-loaded = loaded-has-all
 
+-- Bit 5 of what is on its way may be set, in every state: the dock's answer, and the request.
+pub bit-5-may-be-set : (s : System) → Alike s (systemWith withReservedSet s)
+bit-5-may-be-set = set-alike
+
 -- THE REPLACEMENT HAPPENS. From rest, with no candidate and no mode entered, with a dock that has all that is asked and buffers of 28 bytes, where nothing is
 -- lost: so many exchanges as the gathering needs answers end with the dock's whole catalogue; up to the last arrival the old one is held, to the word; for n
 -- at least 1 the pages are n / 12 + 1.
@@ -283,6 +292,14 @@ module _ (modesOf : ℕ → List ℕ) (start : System) (meets : Meets modesOf (s
   -- From the moment that Identity has gone out, after any run of events, the laptop holds its old catalogue to the word, or the dock's whole one in order.
   pub holds-old-or-whole : OldOrWhole modesOf start there
   holds-old-or-whole = old-or-whole modesOf start meets begun events
+
+  -- So it is with a dock that sets bit 5 in what it sends (02, R-2): whether bit 5 of what is on its way is set or clear at any time, both ends and the lost
+  -- confirmations are those of the run itself.
+  pub same-whatever-bit-5 : (s : System) → LeadsTo modesOf events start s → Alike there s
+  same-whatever-bit-5 s = leads-alike modesOf events start s
+
+  pub holds-old-or-whole-whatever-bit-5 : (s : System) → LeadsTo modesOf events start s → OldOrWhole modesOf start s
+  holds-old-or-whole-whatever-bit-5 s = old-or-whole-alike modesOf start meets begun events s
 
   -- An awaited answer to Identity, SVIDs or Modes that is not BUSY, no page that came before and not the two hundredth page without an end lowers the number
   -- of answers still needed by exactly 1; nothing else lowers it.

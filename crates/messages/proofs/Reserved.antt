@@ -1,5 +1,5 @@
 -- Bit 5 means nothing when it is read, and refusal 4 is never given (02, R-2).
-use mathlib.Core.Path.{_≡_, refl, ap₂, sym, _∙_}
+use mathlib.Core.Path.{_≡_, refl, ap, ap₂, sym, _∙_}
 use mathlib.Core.Bool.{Bool, true, false, cond, not, false≢true}
 use mathlib.Core.List.{List, [], _∷_}
 use Prim.Native.Nat.{ℕ, _/_}
@@ -7,7 +7,7 @@ use native.Mathlib.Omega.{arith}
 use lib.Dec.{ltb}
 use lib.ListN.{length, drop, length-set}
 use Rattle.laws.specs.Lines.{firstAt}
-use Rattle.messages.specs.Layout.{objectOf, objectsOf, structured, major, headOf, Message, messageBytes, withoutReserved, withReservedClear}
+use Rattle.messages.specs.Layout.{objectOf, objectsOf, structured, major, headOf, Message, messageBytes, withoutReserved, withReservedClear, withReservedSet}
 use Rattle.messages.specs.Reading.{wrongLength, unstructured, wrongMajor, wrongShape, headerIn, readLines, readRefusal, messageIn, refused, outcome, readOutcome}
 use Rattle.messages.specs.Writing.{wellShaped, writeRefusal}
 use Rattle.messages.proofs.Header.{clear-structured, clear-major, clear-head}
@@ -44,10 +44,25 @@ unfolding readRefusal
 same-refusal b =
     rw (same-length b, same-said structured clear-structured b, same-said major clear-major b, same-said headOf clear-head b)
 
--- a message with bit 5 set is read as the one with bit 5 clear: the same number, or the same message
+-- a message is read as the one with bit 5 clear: the same number, or the same message
 pub reserved-ignored : (b : List ℕ) → readOutcome (withReservedClear b) ≡ readOutcome b
 unfolding readOutcome
 reserved-ignored b = ap₂ outcome (same-refusal b) (same-message b)
+
+-- what was cleared or set before is cleared to the same
+pub clear-again : (b : List ℕ) → withReservedClear (withReservedClear b) ≡ withReservedClear b
+unfolding withReservedClear
+clear-again [] = refl
+clear-again (p ∷ rest) = ap (λ (byte : ℕ). byte ∷ rest) (omega arith)
+
+pub clear-set : (b : List ℕ) → withReservedClear (withReservedSet b) ≡ withReservedClear b
+unfolding withReservedClear withReservedSet
+clear-set [] = refl
+clear-set (p ∷ rest) = ap (λ (byte : ℕ). byte ∷ rest) (omega arith)
+
+-- so a message with bit 5 set gets what it would get with bit 5 clear
+pub set-as-clear : (b : List ℕ) → readOutcome (withReservedSet b) ≡ readOutcome (withReservedClear b)
+set-as-clear b = sym (reserved-ignored (withReservedSet b)) ∙ ap readOutcome (clear-set b)
 
 -- line 4 is never the first, and so no bytes are refused 4
 pub never-line-4 : (b : List ℕ) → firstAt (readLines b) 3 ≡ true → ⊥

@@ -77,9 +77,12 @@ messageBytes m = bytesOf (headerOf (m .head) ∷ m .objects)
 unfoldable pub withOurVersion : List ℕ → List ℕ
 withOurVersion b = set b 1 (bits 7 7 (getD b 1 0) * 2 ^ 7 + 1 * 2 ^ 5 + 0 * 2 ^ 3 + bits 2 0 (getD b 1 0))
 
--- the same bytes with bit 5 of the header cleared: it stands in byte 0
+-- the same bytes with bit 5 of the header cleared, and set: it stands in byte 0
 abbrev pub withoutReserved : ℕ → ℕ
 withoutReserved byte = byte - reserved byte * 2 ^ 5
 
 unfoldable pub withReservedClear : List ℕ → List ℕ
 withReservedClear b = set b 0 (withoutReserved (getD b 0 0))
+
+unfoldable pub withReservedSet : List ℕ → List ℕ
+withReservedSet b = set b 0 (withoutReserved (getD b 0 0) + 2 ^ 5)

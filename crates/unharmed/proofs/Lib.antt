@@ -21,3 +21,4 @@ pub mod Runs
 pub mod Laws
 pub mod Premises
 pub mod Permitted
+pub mod Reserved

@@ -1,1 +1,2 @@
--- What is proved here is stated in `link`.
+-- Demand 3 over a link that may change bit 5.
+pub mod Reserved

@@ -2,11 +2,13 @@
 
 use crate::rounds;
 use second::messages::{
-    read, write, ACK, ATTENTION, BUSY, ENTER, EXIT, IDENTITY, LAST_MODE_POSITION, MODES, NAK,
-    OBJECT_BYTES, PD_SID, REQ, SVIDS,
+    flip_reserved, has_reserved, read, write, ACK, ATTENTION, BUSY, ENTER, EXIT, IDENTITY,
+    LAST_MODE_POSITION, MODES, NAK, OBJECT_BYTES, PD_SID, REQ, SVIDS,
 };
 use second::random::Random;
-use second::refusals::{ACCEPTED, WRONG_SHAPE};
+use second::refusals::{
+    ACCEPTED, NOT_STRUCTURED, NOT_WHOLE_OBJECTS, UNREAD_MAJOR, WITHDRAWN, WRONG_SHAPE,
+};
 use std::hint::black_box;
 use std::ops::Range;
 
@@ -14,6 +16,10 @@ const SEED: u64 = 0x5EED_0000_0000_0002;
 const INPUTS: usize = 100_000;
 /// One input in so many is damaged.
 const DAMAGED_ONE_IN: usize = 10;
+/// One in so many has bit 5, which means nothing, set.
+const RESERVED_ONE_IN: usize = 50;
+/// The refusals of a damaged message.
+const FAULTS: [u8; 4] = [NOT_WHOLE_OBJECTS, NOT_STRUCTURED, UNREAD_MAJOR, WRONG_SHAPE];
 
 /// SVID, command, type, position, number of objects after the header, then their six words.
 type Answer = [u32; 11];
@@ -22,8 +28,7 @@ type Reader = fn(&[u8], &mut Answer) -> u8;
 /// What an answer holds before the call.
 const UNTOUCHED: Answer = [0xA5A5_A5A5; 11];
 
-/// Bits of the header's first and second byte.
-const RESERVED: u8 = 0x20;
+/// Bits of the header's second byte.
 const STRUCTURED: u8 = 0x80;
 const MAJOR_2: u8 = 0x40;
 /// The bytes of the header that hold the SVID.
@@ -90,6 +95,9 @@ impl Inputs {
             if random.below(DAMAGED_ONE_IN) == 0 {
                 damage(&mut message, &mut random);
             }
+            if random.below(RESERVED_ONE_IN) == 0 {
+                flip_reserved(&mut message);
+            }
             places.push((bytes.len(), message.len()));
             bytes.extend(message);
         }
@@ -121,13 +129,12 @@ fn drawn_message(random: &mut Random) -> Vec<u8> {
     message
 }
 
-/// Gives the message one of the faults behind the refusals 1 to 5.
+/// Gives the message one of the faults behind the refusals 1, 2, 3 and 5.
 fn damage(message: &mut Vec<u8>, random: &mut Random) {
-    match 1 + random.below(WRONG_SHAPE.into()) {
-        1 => message.truncate(message.len() - 1),
-        2 => message[1] &= !STRUCTURED,
-        3 => message[1] |= MAJOR_2,
-        4 => message[0] |= RESERVED,
+    match random.one_of(&FAULTS) {
+        NOT_WHOLE_OBJECTS => message.truncate(message.len() - 1),
+        NOT_STRUCTURED => message[1] &= !STRUCTURED,
+        UNREAD_MAJOR => message[1] |= MAJOR_2,
         _ => message[SVID].fill(0),
     }
 }
@@ -165,9 +172,13 @@ pub fn measure() {
     let inputs = Inputs::record();
     let counts = compare_answers(&inputs);
     println!("reading {INPUTS} messages, both sides answer alike");
+    assert_eq!(counts[usize::from(WITHDRAWN)], 0);
     println!("accepted: {}", counts[usize::from(ACCEPTED)]);
-    for (number, count) in counts.iter().enumerate().skip(1) {
-        println!("refused {number}: {count}");
+    let messages = inputs.messages();
+    let reserved = messages.filter(|message| has_reserved(message) && read(message).is_ok());
+    println!("of these with bit 5: {}", reserved.count());
+    for number in FAULTS {
+        println!("refused {number}: {}", counts[usize::from(number)]);
     }
     rounds::compare(
         INPUTS,

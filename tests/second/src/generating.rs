@@ -5,7 +5,8 @@ use std::io::{self, Write};
 use std::num::ParseIntError;
 use std::process::ExitCode;
 
-const SEED: u64 = 0x5EED_0000_0000_0001;
+/// The seed of the streams that are stored.
+pub const SEED: u64 = 0x5EED_0000_0000_0001;
 const STREAM: &str = "--stream";
 
 /// What a generator of many streams is asked for.

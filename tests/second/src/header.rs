@@ -3,9 +3,10 @@
 use crate::messages::{
     ACK, ATTENTION, BUSY, ENTER, EXIT, IDENTITY, LAST_COMMAND, MODES, NAK, PD_SID, REQ, SVIDS,
 };
+use crate::random::Random;
 
 const LAST_MAJOR: u8 = 3;
-pub const LAST_READ_MAJOR: u8 = 1;
+const LAST_READ_MAJOR: u8 = 1;
 pub const LAST_MINOR: u8 = 3;
 
 #[derive(Clone, Copy)]
@@ -48,6 +49,25 @@ impl Header {
         Header::ours(svid, command, kind, position)
     }
 
+    /// The header as another maker may send it: its version, of those that are read, and bit 5 are
+    /// drawn.
+    pub fn of_another_maker(self, random: &mut Random) -> Self {
+        Header {
+            major: random.byte() & LAST_READ_MAJOR,
+            minor: random.byte() & LAST_MINOR,
+            reserved: random.below(2) == 1,
+            ..self
+        }
+    }
+
+    /// The header with bit 5 set.
+    pub fn with_reserved(self) -> Self {
+        Header {
+            reserved: true,
+            ..self
+        }
+    }
+
     pub fn word(&self) -> u32 {
         u32::from(self.svid) << 16
             | u32::from(self.structured) << 15
@@ -59,7 +79,7 @@ impl Header {
             | u32::from(self.command)
     }
 
-    /// The header in every version, structured or not, with the reserved bit clear or set.
+    /// The header in every version, structured or not, with bit 5 clear or set.
     pub fn with_faults(self) -> Vec<Header> {
         let versions =
             (0..=LAST_MAJOR).flat_map(|major| (0..=LAST_MINOR).map(move |minor| (major, minor)));

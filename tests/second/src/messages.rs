@@ -1,8 +1,7 @@
-//! Messages (01, "Message layout"): reading them from bytes and writing them to bytes.
+//! Messages (01, "Message layout"; 02, R-2): reading them from bytes and writing them to bytes.
 
 use crate::refusals::{
-    ACCEPTED, NOT_STRUCTURED, NOT_WHOLE_OBJECTS, RESERVED_BIT, SHORT_BUFFER, UNREAD_MAJOR,
-    WRONG_SHAPE,
+    ACCEPTED, NOT_STRUCTURED, NOT_WHOLE_OBJECTS, SHORT_BUFFER, UNREAD_MAJOR, WRONG_SHAPE,
 };
 
 pub const IDENTITY: u8 = 1;
@@ -32,9 +31,10 @@ const SVID_BIT: u32 = 16;
 const MAJOR_BIT: u32 = 13;
 const POSITION_BIT: u32 = 8;
 pub const KIND_BIT: u32 = 6;
+/// Bit 5 of the header, and so of its first byte: we send it as 0, and do not look at it.
+pub const RESERVED: u8 = 1 << 5;
 
 const STRUCTURED: u32 = 1 << 15;
-const RESERVED: u32 = 1 << 5;
 const MAJOR: u32 = 3 << MAJOR_BIT;
 const LAST_READ_MAJOR: u32 = 1 << MAJOR_BIT;
 /// Major 1, minor 0.
@@ -96,7 +96,7 @@ impl Objects {
     }
 }
 
-/// The message that the bytes hold, or the first of the refusals 1 to 5 that applies.
+/// The message that the bytes hold, or the first of the refusals 1, 2, 3 and 5 that applies.
 pub fn read(bytes: &[u8]) -> Result<Message, u8> {
     let ([header, after @ ..], []) = bytes.as_chunks::<OBJECT_BYTES>() else {
         return Err(NOT_WHOLE_OBJECTS);
@@ -110,9 +110,6 @@ pub fn read(bytes: &[u8]) -> Result<Message, u8> {
     }
     if header & MAJOR > LAST_READ_MAJOR {
         return Err(UNREAD_MAJOR);
-    }
-    if header & RESERVED != 0 {
-        return Err(RESERVED_BIT);
     }
     let svid = (header >> SVID_BIT) as u16;
     let command = header as u8 & LAST_COMMAND;
@@ -128,6 +125,30 @@ pub fn read(bytes: &[u8]) -> Result<Message, u8> {
         position,
         objects: Objects::from_bytes(after),
     })
+}
+
+/// The objects one after another, least significant byte first.
+pub fn bytes_of(objects: &[u32]) -> Vec<u8> {
+    objects.iter().flat_map(|word| word.to_le_bytes()).collect()
+}
+
+/// Whether bit 5 of the header is set.
+pub fn has_reserved(bytes: &[u8]) -> bool {
+    bytes.first().is_some_and(|byte| byte & RESERVED != 0)
+}
+
+/// Sets bit 5 of the header where it is clear, and clears it where it is set.
+pub fn flip_reserved(bytes: &mut [u8]) {
+    if let Some(byte) = bytes.first_mut() {
+        *byte ^= RESERVED;
+    }
+}
+
+/// The same of a header among objects.
+pub fn flip_reserved_of(objects: &mut [u32]) {
+    if let Some(header) = objects.first_mut() {
+        *header ^= u32::from(RESERVED);
+    }
 }
 
 /// Writes the message at the start of `out` and gives 0. It gives 5 for a wrong shape, else 11 for

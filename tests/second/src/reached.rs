@@ -5,7 +5,7 @@ use crate::fields::{LIST_DONE, LIST_OPEN, NOTHING, NO_CANDIDATE};
 use crate::laptop::MOST_PAGES;
 use crate::messages::{ENTER, EXIT, IDENTITY, LAST_MODE_POSITION, LAST_POSITION, MODES, SVIDS};
 use crate::pages::MOST_SVIDS;
-use crate::refusals::{NOT_WHOLE_OBJECTS, NO_END};
+use crate::refusals::{NOT_WHOLE_OBJECTS, NO_END, WITHDRAWN};
 use std::fmt;
 
 /// Every candidate and the commands that are awaited with it; 0 is nothing.
@@ -75,6 +75,12 @@ impl Reached {
     pub fn missing(&self, names: &[String]) -> Vec<String> {
         self.counts.missing(names)
     }
+
+    /// A line if a number occurred that is withdrawn.
+    pub fn withdrawn(&self) -> Option<String> {
+        let name = refusal(usize::from(WITHDRAWN));
+        (self.counts.of(&name) > 0).then(|| format!("{name} occurred, and it is withdrawn"))
+    }
 }
 
 /// The table: every name that is looked for, with its count.
@@ -90,9 +96,9 @@ pub fn are_lines(bytes: &[u8]) -> bool {
     HEADINGS.iter().any(|heading| bytes.starts_with(heading))
 }
 
-/// The names of all refusals.
+/// The names of all refusals that are given.
 pub fn refusals() -> Vec<String> {
-    let numbers = NOT_WHOLE_OBJECTS..=NO_END;
+    let numbers = (NOT_WHOLE_OBJECTS..=NO_END).filter(|&number| number != WITHDRAWN);
     numbers.map(|number| refusal(usize::from(number))).collect()
 }
 

@@ -4,7 +4,8 @@ pub const ACCEPTED: u8 = 0;
 pub const NOT_WHOLE_OBJECTS: u8 = 1;
 pub const NOT_STRUCTURED: u8 = 2;
 pub const UNREAD_MAJOR: u8 = 3;
-pub const RESERVED_BIT: u8 = 4;
+/// 01's number for bit 5 of the header, which 02 withdraws: it is never given.
+pub const WITHDRAWN: u8 = 4;
 pub const WRONG_SHAPE: u8 = 5;
 pub const NOT_AWAITED: u8 = 6;
 pub const AWAITING: u8 = 7;

@@ -17,6 +17,7 @@ mod link_events;
 mod messages;
 mod pages;
 mod reached;
+mod reserved;
 mod steps;
 mod vectors;
 mod watcher;

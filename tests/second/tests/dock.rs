@@ -510,13 +510,27 @@ fn answers_and_attention_are_refused_6_whatever_the_room() {
 }
 
 #[test]
+fn bit_5_of_a_request_means_nothing_and_is_not_sent_back() {
+    for header in ASKED.into_iter().chain([VENDOR]) {
+        for dock in standings() {
+            let [mut set, mut clear] = [dock.clone(), dock];
+            let answer = message(&mut set, &[header | 0x20], WHOLE_ROOM);
+            assert_eq!(answer, message(&mut clear, &[header], WHOLE_ROOM));
+            assert_eq!(set, clear);
+        }
+    }
+    let nak = bytes(&[0x1234_A39F]);
+    let mut dock = Dock::fresh();
+    assert_eq!(message(&mut dock, &[VENDOR | 0x20], 4), Ok(nak));
+}
+
+#[test]
 fn damaged_messages_are_refused_1_to_5_and_leave_the_dock_alone() {
-    let messages: [(&[u32], u8); 7] = [
+    let messages: [(&[u32], u8); 6] = [
         (&[], 1),
         (&[0xFF00_A001; 8], 1),
         (&[0xFF00_2001], 2),
         (&[0xFF00_C001], 3),
-        (&[0xFF00_A021], 4),
         (&[0xFF00_A101], 5),
         (&[0xFF00_A001, 0], 5),
     ];

@@ -351,6 +351,27 @@ fn the_version_of_an_answer_does_not_matter() {
 }
 
 #[test]
+fn bit_5_of_a_message_means_nothing_in_every_state() {
+    let messages: [&[u32]; 7] = [
+        &[0xFF00_A041, 1, 2, 3],
+        &[0xFF00_A042, 0x0002_0000],
+        &[0xFF00_A082],
+        &[0x0001_A043, 9],
+        &[0x0001_A1C4],
+        &[0x0001_A745],
+        &[0x0001_A206, 7],
+    ];
+    for bench in waits().map(|(bench, _)| bench).into_iter().chain(idle()) {
+        for objects in messages {
+            let [mut set, mut clear] = [bench.clone(), bench.clone()];
+            let with_bit_5 = [&[objects[0] | 0x20], &objects[1..]].concat();
+            assert_eq!(set.message(&with_bit_5), clear.message(objects));
+            assert_eq!(set, clear);
+        }
+    }
+}
+
+#[test]
 fn damaged_messages_are_refused_1_to_5_in_every_state() {
     let states = waits().map(|(bench, _)| bench).into_iter().chain(idle());
     for bench in states {
@@ -362,7 +383,6 @@ fn damaged_messages_are_refused_1_to_5_in_every_state() {
         }
         refused(&bench, 2, |bench| bench.message(&[0xFF00_7FFF]));
         refused(&bench, 3, |bench| bench.message(&[0xFF00_C0E1]));
-        refused(&bench, 4, |bench| bench.message(&[0xFF00_A061]));
         refused(&bench, 5, |bench| bench.message(&[0xFF00_A041, 1, 2]));
     }
 }

@@ -92,7 +92,6 @@ fn each_header_fault_has_its_number() {
     assert_eq!(reading(&[0xFF00_2001]), Err(2));
     assert_eq!(reading(&[0xFF00_C001]), Err(3));
     assert_eq!(reading(&[0xFF00_E001]), Err(3));
-    assert_eq!(reading(&[0xFF00_A021]), Err(4));
     assert_eq!(reading(&[0xFF01_A001]), Err(5));
 }
 
@@ -101,8 +100,36 @@ fn the_first_fault_in_order_is_given() {
     assert_eq!(read(&[0xFF; 3]), Err(1));
     assert_eq!(reading(&[0x0000_6021]), Err(2));
     assert_eq!(reading(&[0x0000_E021]), Err(3));
-    assert_eq!(reading(&[0x0000_A021]), Err(4));
+    assert_eq!(reading(&[0x0000_A021]), Err(5));
     assert_eq!(reading(&[0x0000_A001]), Err(5));
+}
+
+#[test]
+fn bit_5_means_nothing_with_any_other_bits() {
+    for low in (0..=u16::MAX).filter(|low| low & 0x20 == 0) {
+        for high in [0x0000, 0xFF00, 0xFF01] {
+            for count in [0, 1, 3] {
+                let clear = high << 16 | u32::from(low);
+                let [clear, set] = [clear, clear | 0x20]
+                    .map(|header| reading(&[&[header], &OBJECTS[..count]].concat()));
+                assert_eq!(set, clear, "{low:04X}");
+                assert_ne!(set, Err(4));
+            }
+        }
+    }
+}
+
+#[test]
+fn a_header_that_was_read_is_written_with_our_version_and_bit_5_cleared() {
+    for (read_as, written_as) in [
+        (0xFF00_8062, 0xFF00_A042),
+        (0xFF00_B862, 0xFF00_A042),
+        (0xFF00_A062_u32, 0xFF00_A042_u32),
+    ] {
+        let message = read(&bytes(&[read_as, 0xFF01_0000])).unwrap();
+        let written = writing(fields(&message), message.objects.as_slice(), 8);
+        assert_eq!(written, (0, bytes(&[written_as, 0xFF01_0000])));
+    }
 }
 
 #[test]

@@ -35,13 +35,14 @@ fn reached(texts: &[&str]) -> Reached {
 #[test]
 fn nothing_counted_is_everything_missing() {
     let nothing = reached(&[]);
-    assert_eq!(nothing.missing(&refusals()).len(), 14);
+    assert_eq!(nothing.missing(&refusals()).len(), 13);
     let states_lists_pages_positions = 8 + 73 + 2 + 13;
     assert_eq!(
         nothing.missing(&beside_refusals()).len(),
         states_lists_pages_positions
     );
-    assert_eq!(nothing.missing(&refusals())[9], "refusal 10 never occurred");
+    assert_eq!(nothing.missing(&refusals())[8], "refusal 10 never occurred");
+    assert_eq!(nothing.withdrawn(), None);
 }
 
 #[test]
@@ -84,10 +85,18 @@ fn lines_of_all_programs_add_up() {
     let names = ["refusal 13", "refusal 10", "refusal 9", "page count 200"];
     assert_eq!(names.map(|name| counted.count_of(name)), [2, 1, 1, 2]);
     assert_eq!(counted.count_of("held list of 5"), 4);
-    assert_eq!(counted.missing(&refusals()).len(), 14 - 3);
+    assert_eq!(counted.missing(&refusals()).len(), 13 - 3);
     assert!(counted
         .to_string()
         .starts_with("refusal 1: 0\nrefusal 2: 0\n"));
+}
+
+#[test]
+fn a_refusal_that_is_withdrawn_is_told() {
+    let counted = reached(&["event refusal sent pages held\n1 4 - 0 -\nend 1 events\n"]);
+    let told = "refusal 4 occurred, and it is withdrawn".to_string();
+    assert_eq!(counted.withdrawn(), Some(told));
+    assert!(!refusals().contains(&"refusal 4".to_string()));
 }
 
 #[test]

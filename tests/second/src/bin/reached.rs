@@ -1,5 +1,6 @@
 //! Counts what the files given reach, each of them lines of laptop_events, dock_events, watcher or
-//! link_events, or a stream of laptop events. Fails if something of the table was never reached.
+//! link_events, or a stream of laptop events. Fails if something of the table was never reached, or
+//! a number that is withdrawn was.
 
 use second::laptop_events::answers::print_answers;
 use second::reached::{are_lines, beside_refusals, refusals, Reached};
@@ -15,11 +16,12 @@ fn main() -> Result<ExitCode, Box<dyn Error>> {
         println!("{path}: {count} events");
     }
     println!("{reached}");
-    let missing = reached.missing(&[refusals(), beside_refusals()].concat());
-    for line in &missing {
+    let mut wrong = reached.missing(&[refusals(), beside_refusals()].concat());
+    wrong.extend(reached.withdrawn());
+    for line in &wrong {
         println!("{line}");
     }
-    Ok(ExitCode::from(u8::from(!missing.is_empty())))
+    Ok(ExitCode::from(u8::from(!wrong.is_empty())))
 }
 
 /// The lines themselves, or what the stream is answered with.

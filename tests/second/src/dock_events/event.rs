@@ -1,6 +1,7 @@
 //! One event of the stream that drives a dock end, and its form as bytes.
 
 use crate::dock::{PolicyAnswer, Request};
+use crate::messages::{bytes_of, flip_reserved, flip_reserved_of};
 use crate::stream::{count_byte, put_objects, take_bytes, take_kind, take_objects, take_run, Stop};
 use std::io::{self, BufRead, Read, Write};
 
@@ -46,6 +47,25 @@ pub enum Event {
 }
 
 impl Event {
+    /// The bytes of a message.
+    pub fn message(&self) -> Option<Vec<u8>> {
+        match self {
+            Event::Objects { objects } => Some(bytes_of(objects)),
+            Event::Bytes { bytes } => Some(bytes.clone()),
+            _ => None,
+        }
+    }
+
+    /// The same event, a message with bit 5 of its header the other way round.
+    pub fn with_reserved_flipped(mut self) -> Self {
+        match &mut self {
+            Event::Objects { objects } => flip_reserved_of(objects),
+            Event::Bytes { bytes } => flip_reserved(bytes),
+            _ => {}
+        }
+        self
+    }
+
     pub fn take(input: &mut impl BufRead) -> Result<Self, Stop> {
         let kind = take_kind(input)?;
         match kind {

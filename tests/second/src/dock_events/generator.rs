@@ -13,9 +13,9 @@ mod unloaded;
 use super::run::WHOLE_ROOM;
 use super::{Event, Outcome, Run};
 use crate::dock::{PolicyAnswer, Request, Standing};
-use crate::header::{Header, LAST_MINOR, LAST_READ_MAJOR};
+use crate::header::Header;
 use crate::messages::{
-    ENTER, EXIT, IDENTITY, LAST_COMMAND, LAST_MODE_POSITION, LAST_POSITION, MODES,
+    bytes_of, ENTER, EXIT, IDENTITY, LAST_COMMAND, LAST_MODE_POSITION, LAST_POSITION, MODES,
     MOST_AFTER_HEADER, MOST_OBJECTS, PD_SID, REQ, SVIDS,
 };
 use crate::random::Random;
@@ -57,6 +57,7 @@ pub fn generate(seed: u64) -> Vec<Event> {
     generator.rooms();
     generator.not_awaited();
     generator.damage();
+    generator.reserved();
     generator.drawn();
     generator.events
 }
@@ -81,7 +82,7 @@ impl Generator {
         let mut objects = vec![header.word()];
         objects.extend(self.random.objects(after_header));
         if self.random.is_rare() {
-            let bytes = objects.iter().flat_map(|word| word.to_le_bytes()).collect();
+            let bytes = bytes_of(&objects);
             self.push(Event::Bytes { bytes })
         } else {
             self.push(Event::Objects { objects })
@@ -107,11 +108,8 @@ impl Generator {
             IDENTITY | SVIDS | MODES | EXIT => 0,
             _ => self.random.below(MOST_OBJECTS),
         };
-        let header = Header {
-            major: self.random.byte() & LAST_READ_MAJOR,
-            minor: self.random.byte() & LAST_MINOR,
-            ..Header::ours(svid, command, REQ, position)
-        };
+        let header = Header::ours(svid, command, REQ, position);
+        let header = header.of_another_maker(&mut self.random);
         self.message(header, after_header)
     }
 

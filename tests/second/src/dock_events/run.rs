@@ -2,6 +2,7 @@
 
 use super::Event;
 use crate::dock::{Dock, Standing};
+use crate::messages::bytes_of;
 use crate::refusals::ACCEPTED;
 use crate::stream::UNWRITTEN;
 
@@ -66,10 +67,7 @@ impl Run {
         let Run { dock, buffer } = self;
         buffer.fill(UNWRITTEN);
         match event {
-            Event::Objects { objects } => {
-                let bytes: Vec<u8> = objects.iter().flat_map(|word| word.to_le_bytes()).collect();
-                dock.message(&bytes, buffer)
-            }
+            Event::Objects { objects } => dock.message(&bytes_of(objects), buffer),
             Event::Bytes { bytes } => dock.message(bytes, buffer),
             Event::Load { identity, svids } => dock.load(identity, svids).map(|()| 0),
             Event::Policy {

@@ -4,19 +4,19 @@ use super::event::KINDS;
 use super::run::{ASKING, READY, SENDING};
 use super::{Event, Run};
 use crate::dock::MOST_SVIDS;
+use crate::messages::{has_reserved, read, ATTENTION, LAST_COMMAND};
 use crate::refusals::{
     ACCEPTED, BROKEN_LIMITS, NOT_AWAITED, NOT_STRUCTURED, NOT_TAKEN_NOW, NOT_WHOLE_OBJECTS,
-    RESERVED_BIT, SHORT_BUFFER, UNREAD_MAJOR, WRONG_SHAPE,
+    SHORT_BUFFER, UNREAD_MAJOR, WRONG_SHAPE,
 };
 use std::collections::BTreeMap;
 use std::fmt;
 
-const REFUSALS: [u8; 10] = [
+const REFUSALS: [u8; 9] = [
     ACCEPTED,
     NOT_WHOLE_OBJECTS,
     NOT_STRUCTURED,
     UNREAD_MAJOR,
-    RESERVED_BIT,
     WRONG_SHAPE,
     NOT_AWAITED,
     NOT_TAKEN_NOW,
@@ -33,6 +33,8 @@ pub struct Tally {
     pairs: BTreeMap<(u8, &'static str), usize>,
     /// By the length of a list that was loaded.
     lists: BTreeMap<usize, usize>,
+    /// By the command of a request with bit 5 that was accepted.
+    reserved: BTreeMap<u8, usize>,
 }
 
 impl Tally {
@@ -45,9 +47,16 @@ impl Tally {
             let length = self.run.dock().svid_count();
             *self.lists.entry(length).or_default() += 1;
         }
+        let message = event.message().filter(|bytes| has_reserved(bytes));
+        if let Some(Ok(request)) = message.map(|bytes| read(&bytes)) {
+            if refusal == ACCEPTED {
+                *self.reserved.entry(request.command).or_default() += 1;
+            }
+        }
     }
 
-    /// A line for each refusal, pair and length of a list that never occurred.
+    /// A line for each refusal, pair and length of a list that never occurred, and for each command
+    /// whose request was never accepted with bit 5.
     pub fn missing(&self) -> Vec<String> {
         let refusals = REFUSALS
             .iter()
@@ -61,7 +70,11 @@ impl Tally {
         let lists = (0..=MOST_SVIDS)
             .filter(|length| !self.lists.contains_key(length))
             .map(|length| format!("a list of {length} never occurred"));
-        refusals.chain(pairs).chain(lists).collect()
+        let reserved = (0..=LAST_COMMAND)
+            .filter(|&command| command != ATTENTION && !self.reserved.contains_key(&command))
+            .map(|command| format!("command {command} with bit 5 was never accepted"));
+        let first = refusals.chain(pairs).chain(lists);
+        first.chain(reserved).collect()
     }
 }
 
@@ -73,6 +86,12 @@ impl fmt::Display for Tally {
         for ((kind, standing), count) in &self.pairs {
             writeln!(formatter, "kind {kind:02X} while {standing}: {count}")?;
         }
+        let reserved: usize = self.reserved.values().sum();
+        let commands = self.reserved.len();
+        writeln!(
+            formatter,
+            "requests with bit 5 accepted: {reserved}, of {commands} commands"
+        )?;
         let loads: usize = self.lists.values().sum();
         let lengths = self.lists.len();
         write!(formatter, "lists loaded: {loads}, of {lengths} lengths")

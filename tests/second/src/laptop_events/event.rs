@@ -1,6 +1,7 @@
 //! One event of the stream that drives a laptop end, and its form as bytes.
 
 use crate::call::Call;
+use crate::messages::flip_reserved;
 use crate::stream::{count_byte, take_bytes, take_kind, take_run, Stop};
 use std::io::{self, BufRead, Read, Write};
 
@@ -70,6 +71,14 @@ pub fn put_streams(streams: &[Vec<Event>], output: &mut impl Write) -> io::Resul
 }
 
 impl Event {
+    /// The same event, a message with bit 5 of its header the other way round.
+    pub fn with_reserved_flipped(mut self) -> Self {
+        if let Event::Message { bytes } = &mut self {
+            flip_reserved(bytes);
+        }
+        self
+    }
+
     /// The event that this byte opens.
     fn take(kind: u8, input: &mut impl Read) -> Result<Self, Stop> {
         Ok(match kind {

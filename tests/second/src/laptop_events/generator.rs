@@ -10,6 +10,7 @@ use super::event::MOST_CATALOGUE_ROOM;
 use super::{Event, Outcome, Run};
 use crate::fields::{LIST_DONE, LIST_OPEN, NO_CANDIDATE};
 use crate::laptop::Candidate;
+use crate::messages::bytes_of;
 use crate::random::Random;
 use crate::reached::{beside_refusals, refusals};
 use crate::watcher;
@@ -72,7 +73,7 @@ impl From<watcher::Event> for Event {
 
 impl Event {
     fn of_objects(objects: &[u32]) -> Self {
-        let bytes = objects.iter().flat_map(|word| word.to_le_bytes()).collect();
+        let bytes = bytes_of(objects);
         Event::Message { bytes }
     }
 }

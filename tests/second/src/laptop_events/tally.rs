@@ -1,11 +1,13 @@
-//! Counts what streams of laptop events reach that their lines do not tell: damaged messages, late
-//! answers, repeats, and pages after the two hundredth.
+//! Counts what streams of laptop events reach that their lines do not tell: damaged messages,
+//! messages with bit 5, late answers, repeats, and pages after the two hundredth.
 
 use super::{Event, Outcome, Run};
 use crate::call::Call;
 use crate::counts::Counts;
 use crate::laptop::{Candidate, MOST_PAGES};
-use crate::messages::{read, Message, Request, ACK, ENTER, EXIT, IDENTITY, MODES, REQ, SVIDS};
+use crate::messages::{
+    has_reserved, read, Message, Request, ACK, ENTER, EXIT, IDENTITY, MODES, REQ, SVIDS,
+};
 use crate::refusals::{ACCEPTED, NOT_AWAITED, NOT_WHOLE_OBJECTS, WRONG_SHAPE};
 
 const STREAMS: &str = "streams";
@@ -13,6 +15,8 @@ const REPEAT: &str = "repeat of the last page taken";
 const PAGE_201: &str = "page after the two hundredth";
 const LATE_ALONE: &str = "late answer with nothing awaited";
 const LATE_TAKEN: &str = "late answer taken for a newer request";
+const DAMAGED: &str = "damaged message";
+const RESERVED: &str = "message with bit 5 accepted";
 
 #[derive(Default)]
 pub struct Tally {
@@ -27,6 +31,13 @@ struct Before {
     awaited: Option<Request>,
     candidate: Candidate,
     page_count: usize,
+}
+
+impl Before {
+    /// The command that is awaited; 0 is nothing.
+    fn command(&self) -> u8 {
+        self.awaited.map_or(0, |request| request.command)
+    }
 }
 
 impl Tally {
@@ -50,7 +61,10 @@ impl Tally {
         let outcome = self.run.take(event);
         match event {
             Event::Message { bytes } => match read(bytes) {
-                Ok(message) => self.count_message(&message, &before, &outcome),
+                Ok(message) => {
+                    self.count_reserved(bytes, &before, &outcome);
+                    self.count_message(&message, &before, &outcome);
+                }
                 Err(_) => self.count_damaged(&before, &outcome),
             },
             Event::Call(call) => self.end_wait(*call, &before, &outcome),
@@ -61,8 +75,14 @@ impl Tally {
     /// Short runs are refused before the message is read.
     fn count_damaged(&mut self, before: &Before, outcome: &Outcome) {
         if (NOT_WHOLE_OBJECTS..=WRONG_SHAPE).contains(&outcome.refusal) {
-            let command = before.awaited.map_or(0, |request| request.command);
-            self.counts.add(damaged(command));
+            self.counts.add(awaiting(DAMAGED, before.command()));
+        }
+    }
+
+    /// With nothing awaited, Attention alone is accepted.
+    fn count_reserved(&mut self, bytes: &[u8], before: &Before, outcome: &Outcome) {
+        if has_reserved(bytes) && outcome.refusal == ACCEPTED {
+            self.counts.add(awaiting(RESERVED, before.command()));
         }
     }
 
@@ -114,12 +134,14 @@ impl Tally {
 fn names() -> Vec<String> {
     let single = [STREAMS, REPEAT, PAGE_201, LATE_ALONE, LATE_TAKEN].map(str::to_string);
     let commands = [0, IDENTITY, SVIDS, MODES, ENTER, EXIT];
-    single.into_iter().chain(commands.map(damaged)).collect()
+    let sorts = [DAMAGED, RESERVED].into_iter();
+    let awaiting = sorts.flat_map(|sort| commands.map(|command| awaiting(sort, command)));
+    single.into_iter().chain(awaiting).collect()
 }
 
-fn damaged(command: u8) -> String {
+fn awaiting(sort: &str, command: u8) -> String {
     match command {
-        0 => "damaged message awaiting nothing".to_string(),
-        _ => format!("damaged message awaiting command {command}"),
+        0 => format!("{sort} awaiting nothing"),
+        _ => format!("{sort} awaiting command {command}"),
     }
 }

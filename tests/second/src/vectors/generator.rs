@@ -1,7 +1,7 @@
 //! Makes the vectors: every row of 01's table and its edges, then damage of every kind.
 
 use super::Vector;
-use crate::header::{samples, Header, LAST_MINOR, LAST_READ_MAJOR};
+use crate::header::{samples, Header};
 use crate::messages::{
     ACK, BUSY, EXIT, IDENTITY, LAST_COMMAND, LAST_KIND, LAST_POSITION, MOST_OBJECTS, NAK,
     OBJECT_BYTES, PD_SID, REQ, SVIDS,
@@ -99,13 +99,11 @@ impl Generator {
 
     fn reads_of_row(&mut self, command: u8, kind: u8, after_header: usize) {
         for header in self.headers_of_row(command, kind) {
-            let header = Header {
-                major: self.random.byte() & LAST_READ_MAJOR,
-                minor: self.random.byte() & LAST_MINOR,
-                ..header
-            };
+            let header = header.of_another_maker(&mut self.random);
             self.read(header.word(), after_header);
         }
+        let header = Header::usual(command, kind).with_reserved();
+        self.read(header.word(), after_header);
     }
 
     /// The usual header with a byte too few, just enough and a byte too many. The other headers
@@ -154,7 +152,8 @@ impl Generator {
         }
     }
 
-    /// Every mix of the faults behind 1 to 5, so that their order shows.
+    /// Every mix of the faults behind 1, 2, 3 and 5, so that their order shows, with bit 5 clear or
+    /// set.
     fn faults(&mut self) {
         for (sample, after_header) in samples() {
             for header in sample.with_faults() {
@@ -226,16 +225,13 @@ impl Generator {
     }
 
     fn drawn_header(&mut self) -> Header {
-        Header {
-            major: self.random.byte() & LAST_READ_MAJOR,
-            minor: self.random.byte() & LAST_MINOR,
-            ..Header::ours(
-                self.random.svid(),
-                self.random.byte() & LAST_COMMAND,
-                self.random.byte() & LAST_KIND,
-                self.random.byte() & LAST_POSITION,
-            )
-        }
+        let header = Header::ours(
+            self.random.svid(),
+            self.random.byte() & LAST_COMMAND,
+            self.random.byte() & LAST_KIND,
+            self.random.byte() & LAST_POSITION,
+        );
+        header.of_another_maker(&mut self.random)
     }
 }
 

@@ -1,5 +1,6 @@
 //! One vector of the stream that both implementations answer, and its form as bytes.
 
+use crate::messages::flip_reserved;
 use crate::stream::{count_byte, put_objects, take_bytes, take_kind, take_objects, take_run, Stop};
 use std::io::{self, BufRead, Read, Write};
 
@@ -21,6 +22,14 @@ pub enum Vector {
 }
 
 impl Vector {
+    /// The same vector, a message to read with bit 5 of its header the other way round.
+    pub fn with_reserved_flipped(mut self) -> Self {
+        if let Vector::Read { bytes } = &mut self {
+            flip_reserved(bytes);
+        }
+        self
+    }
+
     pub fn take(input: &mut impl BufRead) -> Result<Self, Stop> {
         match take_kind(input)? {
             READ => Self::take_read(input),

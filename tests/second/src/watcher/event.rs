@@ -4,6 +4,7 @@ use crate::call::{
     Call, DROP, ENTER, ENTRY_TIMER, EXIT, EXIT_TIMER, NEXT, PROTOCOL_ERROR, RESPONSE_TIMER,
     START_OVER,
 };
+use crate::messages::flip_reserved_of;
 use crate::stream::{count_byte, put_objects, take_kind, take_objects, Stop};
 use std::io::{self, BufRead, Write};
 
@@ -43,6 +44,14 @@ impl From<Call> for Event {
 }
 
 impl Event {
+    /// The same event, a message with bit 5 of its header the other way round.
+    pub fn with_reserved_flipped(mut self) -> Self {
+        if let Event::Message { objects } = &mut self {
+            flip_reserved_of(objects);
+        }
+        self
+    }
+
     pub fn take(input: &mut impl BufRead) -> Result<Self, Stop> {
         let kind = take_kind(input)?;
         Ok(match kind {

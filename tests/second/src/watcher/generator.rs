@@ -14,7 +14,7 @@ mod unheld;
 
 use super::{Event, Outcome, Run};
 use crate::call::Call;
-use crate::header::{Header, LAST_MINOR, LAST_READ_MAJOR};
+use crate::header::Header;
 use crate::laptop::Candidate;
 use crate::messages::{
     Request, ACK, BUSY, IDENTITY, LAST_POSITION, MODES, MOST_AFTER_HEADER, NAK, PD_SID, SVIDS,
@@ -48,6 +48,7 @@ pub fn generate(seed: u64) -> Vec<Event> {
     generator.messages_everywhere();
     generator.late_answers();
     generator.damage();
+    generator.reserved();
     generator.drawn();
     generator.events
 }
@@ -92,24 +93,30 @@ impl Generator {
         self.push(Event::Message { objects })
     }
 
-    /// An answer to the last request, in a version that is read.
-    fn answer(&mut self, kind: u8, after: &[u32]) -> Outcome {
+    /// The header of an answer to the last request.
+    fn fitting(&self, kind: u8) -> Header {
         let Request {
             svid,
             command,
             position,
         } = self.asked;
-        let header = Header {
-            major: self.random.byte() & LAST_READ_MAJOR,
-            minor: self.random.byte() & LAST_MINOR,
-            ..Header::ours(svid, command, kind, position)
-        };
+        Header::ours(svid, command, kind, position)
+    }
+
+    /// An answer to the last request, in a version that is read, and with bit 5 clear or set.
+    fn answer(&mut self, kind: u8, after: &[u32]) -> Outcome {
+        let header = self.fitting(kind).of_another_maker(&mut self.random);
         self.message(header, after)
     }
 
     /// An answer to the last request, with drawn objects; a page has one SVID and ends the list.
     fn answer_well(&mut self, kind: u8) -> Outcome {
-        let objects = match (kind, self.asked.command) {
+        let objects = self.good_objects(kind);
+        self.answer(kind, &objects)
+    }
+
+    fn good_objects(&mut self, kind: u8) -> Vec<u32> {
+        match (kind, self.asked.command) {
             (ACK, IDENTITY) => {
                 let more = self.random.below(MOST_AFTER_HEADER - LEAST_IDENTITY + 1);
                 self.random.objects(LEAST_IDENTITY + more)
@@ -120,8 +127,7 @@ impl Generator {
                 self.random.objects(count)
             }
             _ => Vec::new(),
-        };
-        self.answer(kind, &objects)
+        }
     }
 
     fn acknowledge(&mut self) -> Outcome {

@@ -3,7 +3,7 @@
 use super::Event;
 use crate::catalogue::{MOST_CATALOGUE_BYTES, RUN_WORDS};
 use crate::laptop::{Answer, Laptop, Runs};
-use crate::messages::OBJECT_BYTES;
+use crate::messages::{bytes_of, OBJECT_BYTES};
 use crate::refusals::ACCEPTED;
 
 pub struct Run {
@@ -64,10 +64,7 @@ impl Run {
             candidate: &mut self.candidate,
         };
         match event {
-            Event::Message { objects } => {
-                let bytes: Vec<u8> = objects.iter().flat_map(|word| word.to_le_bytes()).collect();
-                self.laptop.message(&bytes, runs)
-            }
+            Event::Message { objects } => self.laptop.message(&bytes_of(objects), runs),
             Event::Call(call) => call.make(&mut self.laptop, runs, &mut self.buffer),
         }
     }

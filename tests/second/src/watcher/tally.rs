@@ -3,21 +3,23 @@
 use super::event::KINDS;
 use super::{Event, Run};
 use crate::laptop::{Candidate, Laptop};
-use crate::messages::{ENTER, EXIT, IDENTITY, LAST_MODE_POSITION, LAST_POSITION, MODES, SVIDS};
+use crate::messages::{
+    bytes_of, has_reserved, read, ACK, ATTENTION, BUSY, ENTER, EXIT, IDENTITY, LAST_MODE_POSITION,
+    LAST_POSITION, MODES, NAK, REQ, SVIDS,
+};
 use crate::pages::MOST_SVIDS;
 use crate::refusals::{
     ACCEPTED, AWAITING, BLOCKED, NOT_AWAITED, NOT_HELD, NOT_STRUCTURED, NOT_TAKEN_NOW, NO_END,
-    RESERVED_BIT, UNREAD_MAJOR, VOIDED, WRONG_SHAPE,
+    UNREAD_MAJOR, VOIDED, WRONG_SHAPE,
 };
 use std::collections::BTreeMap;
 use std::fmt;
 
 /// Every refusal of the laptop but 1 and 11, which the stream cannot bring about.
-const REFUSALS: [u8; 12] = [
+const REFUSALS: [u8; 11] = [
     ACCEPTED,
     NOT_STRUCTURED,
     UNREAD_MAJOR,
-    RESERVED_BIT,
     WRONG_SHAPE,
     NOT_AWAITED,
     AWAITING,
@@ -55,6 +57,8 @@ pub struct Tally {
     requests: BTreeMap<(u8, u8), usize>,
     /// By the length of a list that was published.
     lists: BTreeMap<usize, usize>,
+    /// By the command and type of a message with bit 5 that was accepted.
+    reserved: BTreeMap<(u8, u8), usize>,
 }
 
 impl Tally {
@@ -77,9 +81,21 @@ impl Tally {
         {
             *self.lists.entry(held.svids.len()).or_default() += 1;
         }
+        if let Event::Message { objects } = event {
+            self.count_reserved(&bytes_of(objects), outcome.refusal);
+        }
     }
 
-    /// A line for each refusal, pair, state, request and length of a list that never occurred.
+    fn count_reserved(&mut self, bytes: &[u8], refusal: u8) {
+        let message = read(bytes).ok().filter(|_| has_reserved(bytes));
+        if let Some(message) = message.filter(|_| refusal == ACCEPTED) {
+            let pair = (message.command, message.kind);
+            *self.reserved.entry(pair).or_default() += 1;
+        }
+    }
+
+    /// A line for each refusal, pair, state, request and length of a list that never occurred, and
+    /// for each command and type that was never accepted with bit 5.
     pub fn missing(&self) -> Vec<String> {
         let refusals = absent(&self.refusals, REFUSALS)
             .map(|refusal| format!("refusal {refusal} never occurred"));
@@ -94,8 +110,11 @@ impl Tally {
             .map(|(command, position)| format!("request {command} at {position} never occurred"));
         let lists = absent(&self.lists, 0..=MOST_SVIDS)
             .map(|length| format!("a list of {length} never occurred"));
+        let reserved = absent(&self.reserved, taken()).map(|(command, kind)| {
+            format!("command {command} type {kind} with bit 5 was never accepted")
+        });
         let first = refusals.chain(pairs).chain(states);
-        first.chain(requests).chain(lists).collect()
+        first.chain(requests).chain(lists).chain(reserved).collect()
     }
 }
 
@@ -113,6 +132,12 @@ impl fmt::Display for Tally {
         for ((command, position), count) in &self.requests {
             writeln!(formatter, "request {command} at {position}: {count}")?;
         }
+        let reserved: usize = self.reserved.values().sum();
+        let pairs = self.reserved.len();
+        writeln!(
+            formatter,
+            "messages with bit 5 accepted: {reserved}, of {pairs} pairs of command and type"
+        )?;
         let published: usize = self.lists.values().sum();
         let lengths = self.lists.len();
         write!(
@@ -136,6 +161,15 @@ fn requests() -> impl Iterator<Item = (u8, u8)> {
     let enters = (1..=LAST_MODE_POSITION).map(|position| (ENTER, position));
     let exits = (1..=LAST_POSITION).map(|position| (EXIT, position));
     asking.chain(enters).chain(exits)
+}
+
+/// The command and type of every message that a laptop can accept; a NAK to Modes it refuses.
+fn taken() -> impl Iterator<Item = (u8, u8)> {
+    let answers = [IDENTITY, SVIDS, MODES, ENTER, EXIT]
+        .into_iter()
+        .flat_map(|command| [ACK, NAK, BUSY].map(|kind| (command, kind)));
+    let answers = answers.filter(|&pair| pair != (MODES, NAK));
+    answers.chain([(ATTENTION, REQ)])
 }
 
 /// Commands 1 to 5 are awaited, so 0 stands for nothing.

@@ -49,7 +49,7 @@ impl Generator {
         bytes
     }
 
-    /// Every mix of the faults behind 2 to 5, so that their order shows.
+    /// Every mix of the faults behind 2, 3 and 5, so that their order shows, with bit 5 clear or set.
     fn faults(&mut self, situation: Situation) {
         for (sample, after_header) in samples() {
             let minor = self.random.byte() & LAST_MINOR;

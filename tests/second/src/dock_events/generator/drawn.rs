@@ -108,6 +108,7 @@ impl Generator {
     fn drawn_no_request(&mut self) {
         let messages = no_requests();
         let (header, after_header) = self.random.one_of(&messages);
+        let header = header.of_another_maker(&mut self.random);
         self.message(header, after_header);
     }
 

@@ -52,6 +52,18 @@ impl Generator {
         }
     }
 
+    /// Requests of every command with bit 5 set, in every standing.
+    pub(super) fn reserved(&mut self) {
+        for situation in STANDINGS {
+            for command in ASKED.into_iter().chain(without_policy()) {
+                self.open_list();
+                self.bring_to(situation);
+                self.message(Header::usual(command, REQ).with_reserved(), 0);
+                self.close();
+            }
+        }
+    }
+
     /// What a dock never takes, also without a room for an answer.
     pub(super) fn not_awaited(&mut self) {
         for situation in STANDINGS {
@@ -60,6 +72,7 @@ impl Generator {
             for room in [0, WHOLE_ROOM] {
                 self.room(room);
                 for (header, after_header) in no_requests() {
+                    let header = header.of_another_maker(&mut self.random);
                     self.message(header, after_header);
                 }
             }

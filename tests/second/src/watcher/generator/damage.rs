@@ -9,18 +9,17 @@ impl Generator {
     pub(super) fn damage(&mut self) {
         for situation in WAITING {
             self.set_up(situation);
-            let asked = self.asked;
-            let fitting = |kind| Header::ours(asked.svid, asked.command, kind, asked.position);
             let kind = self.random.one_of(&ANSWERS);
             let count = self.random.below(MOST_AFTER_HEADER + 1);
-            let faults = fitting(kind).with_faults();
+            let faults = self.fitting(kind).with_faults();
             let mut events: Vec<Event> = faults
                 .into_iter()
                 .map(|header| self.drawn_message(header, count))
                 .collect();
             for kind in ANSWERS {
+                let header = self.fitting(kind).of_another_maker(&mut self.random);
                 let counts = 0..=MOST_AFTER_HEADER;
-                events.extend(counts.map(|count| self.drawn_message(fitting(kind), count)));
+                events.extend(counts.map(|count| self.drawn_message(header, count)));
             }
             self.everything_in(situation, &events);
         }

@@ -35,6 +35,7 @@ impl Generator {
         for (svid, command, position) in NAMED {
             for kind in 0..=LAST_KIND {
                 let header = Header::ours(svid, command, kind, position);
+                let header = header.of_another_maker(&mut self.random);
                 let counts = match (kind, command) {
                     (ACK, IDENTITY | SVIDS | MODES) => 0..=MOST_AFTER_HEADER,
                     _ => 0..=1,
@@ -44,7 +45,7 @@ impl Generator {
         }
         for command in [0, ATTENTION, ATTENTION + 1, LAST_COMMAND] {
             for kind in [REQ, ACK, NAK] {
-                let header = Header::usual(command, kind);
+                let header = Header::usual(command, kind).of_another_maker(&mut self.random);
                 messages.extend((0..=2).map(|count| self.drawn_message(header, count)));
             }
         }
@@ -54,6 +55,22 @@ impl Generator {
     pub(super) fn drawn_message(&mut self, header: Header, count: usize) -> Event {
         let objects = [&[header.word()][..], &self.random.objects(count)].concat();
         Event::Message { objects }
+    }
+
+    /// With bit 5 set, Attention in each situation, and good answers of every type to each request.
+    pub(super) fn reserved(&mut self) {
+        for situation in IDLE.into_iter().chain(WAITING) {
+            self.set_up(situation);
+            self.message(Header::usual(ATTENTION, REQ).with_reserved(), &[]);
+        }
+        for situation in WAITING {
+            for kind in ANSWERS {
+                self.set_up(situation);
+                let objects = self.good_objects(kind);
+                self.message(self.fitting(kind).with_reserved(), &objects);
+                self.next();
+            }
+        }
     }
 
     /// Answers after a timer or a protocol error has ended the wait: with nothing awaited, and

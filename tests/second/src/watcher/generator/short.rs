@@ -6,7 +6,6 @@ use super::situation::{all_calls, IDLE, TIMERS, WAITING};
 use super::two_hundred::LASTS;
 use super::{Generator, ANSWERS};
 use crate::call::Call;
-use crate::header::Header;
 use crate::messages::{ACK, LAST_POSITION, MOST_AFTER_HEADER};
 use crate::pages::{page, MOST_SVIDS, PAGE_SVIDS};
 
@@ -119,11 +118,10 @@ impl Generator {
     fn few_faults(&mut self) {
         let situation = self.random.one_of(&WAITING);
         self.set_up(situation);
-        let asked = self.asked;
         for _ in 0..self.random.below(7) + 2 {
             let kind = self.random.one_of(&ANSWERS);
-            let header = Header::ours(asked.svid, asked.command, kind, asked.position);
-            let header = self.random.one_of(&header.with_faults());
+            let headers = self.fitting(kind).with_faults();
+            let header = self.random.one_of(&headers);
             let count = self.random.below(MOST_AFTER_HEADER + 1);
             let event = self.drawn_message(header, count);
             self.push(event);

@@ -1,0 +1,104 @@
+//! Streams with bit 5 of each message's header the other way round: the answers are the same.
+
+use second::messages::{flip_reserved, flip_reserved_of, has_reserved};
+use second::{dock_events, laptop_events, vectors, watcher};
+
+const SEEDS: [u64; 3] = [1, 2, u64::MAX];
+
+fn lines(answer: impl FnOnce(&mut &[u8], &mut Vec<u8>), stream: &[u8]) -> String {
+    let mut output = Vec::new();
+    answer(&mut &stream[..], &mut output);
+    String::from_utf8(output).unwrap()
+}
+
+#[test]
+fn a_flipped_header_differs_in_bit_5_alone() {
+    let mut bytes = [0x42, 0xA0, 0x00, 0xFF];
+    flip_reserved(&mut bytes);
+    assert_eq!(bytes, [0x62, 0xA0, 0x00, 0xFF]);
+    assert!(has_reserved(&bytes));
+    flip_reserved(&mut bytes);
+    assert_eq!(bytes, [0x42, 0xA0, 0x00, 0xFF]);
+    assert!(!has_reserved(&bytes) && !has_reserved(&[]));
+    let mut objects = [0xFF00_A042, 7];
+    flip_reserved_of(&mut objects);
+    assert_eq!(objects, [0xFF00_A062, 7]);
+}
+
+#[test]
+fn vectors_are_answered_the_same() {
+    for seed in SEEDS {
+        let [mut stream, mut flipped] = [Vec::new(), Vec::new()];
+        for vector in vectors::generator::generate(seed) {
+            vector.put(&mut stream).unwrap();
+            vector.with_reserved_flipped().put(&mut flipped).unwrap();
+        }
+        assert_ne!(flipped, stream);
+        let answers = [flipped, stream].map(|stream| {
+            lines(
+                |input, output| vectors::answers::print_answers(input, output).unwrap(),
+                &stream,
+            )
+        });
+        assert_eq!(answers[0], answers[1]);
+    }
+}
+
+#[test]
+fn the_dock_answers_the_same() {
+    for seed in SEEDS {
+        let [mut stream, mut flipped] = [Vec::new(), Vec::new()];
+        for event in dock_events::generator::generate(seed) {
+            event.put(&mut stream).unwrap();
+            event.with_reserved_flipped().put(&mut flipped).unwrap();
+        }
+        assert_ne!(flipped, stream);
+        let answers = [flipped, stream].map(|stream| {
+            lines(
+                |input, output| dock_events::answers::print_answers(input, output).unwrap(),
+                &stream,
+            )
+        });
+        assert_eq!(answers[0], answers[1]);
+    }
+}
+
+#[test]
+fn the_watcher_prints_the_same() {
+    for seed in SEEDS {
+        let [mut stream, mut flipped] = [Vec::new(), Vec::new()];
+        for event in watcher::generator::generate(seed) {
+            event.put(&mut stream).unwrap();
+            event.with_reserved_flipped().put(&mut flipped).unwrap();
+        }
+        assert_ne!(flipped, stream);
+        let answers = [flipped, stream].map(|stream| {
+            lines(
+                |input, output| watcher::answers::print_answers(input, output).unwrap(),
+                &stream,
+            )
+        });
+        assert_eq!(answers[0], answers[1]);
+    }
+}
+
+#[test]
+fn the_laptop_answers_the_same() {
+    for seed in SEEDS {
+        let events = laptop_events::generator::generate(seed);
+        let flipped = events.iter().cloned();
+        let flipped: Vec<_> = flipped
+            .map(laptop_events::Event::with_reserved_flipped)
+            .collect();
+        assert_ne!(flipped, events);
+        let answers = [flipped, events].map(|events| {
+            let mut stream = Vec::new();
+            laptop_events::put_streams(&[events], &mut stream).unwrap();
+            lines(
+                |input, output| laptop_events::answers::print_answers(input, output).unwrap(),
+                &stream,
+            )
+        });
+        assert_eq!(answers[0], answers[1]);
+    }
+}

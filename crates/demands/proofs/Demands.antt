@@ -7,11 +7,11 @@ use mathlib.Core.List.{List, [], _++_}
 use Prim.Native.Nat.{ℕ, _+_, _*_, _/_, _^_, _<_, _≤_}
 use lib.ListN.{length, getD, take, replicate}
 use Rattle.laws.specs.Bounded.{Below}
-use Rattle.messages.specs.Layout.{Message, Representable, messageBytes, withOurVersion, withReservedClear, withReservedSet}
-use Rattle.messages.specs.Reading.{accepted, readOutcome}
+use Rattle.messages.specs.Layout.{reserved, Message, Representable, messageBytes, withOurVersion, withReservedClear, withReservedSet}
+use Rattle.messages.specs.Reading.{headerIn, accepted, readOutcome}
 use Rattle.messages.specs.Writing.{wellShaped, Written}
 use Rattle.messages.proofs.Laws.{write-read}
-use Rattle.messages.proofs.Reserved.{reserved-ignored, set-as-clear}
+use Rattle.messages.proofs.Reserved.{reserved-ignored, clear-and-set, set-as-clear}
 use Rattle.messages.proofs.RoundTrip.{read-bytes}
 use Rattle.pages.specs.Lists.{isIn, soundList}
 use Rattle.pages.specs.Pages.{halves, page, isLast, remaining, readOff, pages, readPages}
@@ -170,6 +170,9 @@ link-permits = permits
 -- RESERVED MEANS IGNORED (02, R-2). A message with bit 5 set gets exactly what it would get with bit 5 clear: when it is read,
 pub read-with-bit-5-set : (bytes : List ℕ) → readOutcome (withReservedSet bytes) ≡ readOutcome (withReservedClear bytes)
 read-with-bit-5-set = set-as-clear
+
+pub bit-5-is-what-differs : (bytes : List ℕ) → 4 ≤ length bytes → (reserved (headerIn (withReservedClear bytes)) ≡ 0) × (reserved (headerIn (withReservedSet bytes)) ≡ 1)
+bit-5-is-what-differs = clear-and-set
 
 pub read-whatever-bit-5 : (bytes : List ℕ) → readOutcome (withReservedClear bytes) ≡ readOutcome bytes
 read-whatever-bit-5 = reserved-ignored

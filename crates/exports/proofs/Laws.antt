@@ -9,7 +9,6 @@ use Rattle.laws.proofs.Padded.{padded-at}
 use Rattle.laws.proofs.Tight.{one-value}
 use Rattle.messages.specs.Layout.{Message, withReservedClear}
 use Rattle.messages.specs.Reading.{Outcome, accepted, refused, readOutcome, shown, readNumber}
-use Rattle.messages.specs.declared.ReadAs.{ReadAs}
 use Rattle.messages.specs.declared.ReadAs.the-variants.{Refused}
 use Rattle.messages.specs.declared.ReadAs.the-variants.{Message as ReadAs·Message}
 use Rattle.messages.specs.declared.Head.{Head}

@@ -2,12 +2,12 @@
 use mathlib.Core.Path.{_≡_, refl, ap, ap₂, sym, _∙_}
 use mathlib.Core.Bool.{Bool, true, false, cond, not, false≢true}
 use mathlib.Core.List.{List, [], _∷_}
-use Prim.Native.Nat.{ℕ, _/_}
+use Prim.Native.Nat.{ℕ, _/_, _≤_}
 use native.Mathlib.Omega.{arith}
 use lib.Dec.{ltb}
 use lib.ListN.{length, drop, length-set}
 use Rattle.laws.specs.Lines.{firstAt}
-use Rattle.messages.specs.Layout.{objectOf, objectsOf, structured, major, headOf, Message, messageBytes, withoutReserved, withReservedClear, withReservedSet}
+use Rattle.messages.specs.Layout.{objectOf, objectsOf, structured, major, reserved, headOf, Message, messageBytes, withoutReserved, withReservedClear, withReservedSet}
 use Rattle.messages.specs.Reading.{wrongLength, unstructured, wrongMajor, wrongShape, headerIn, readLines, readRefusal, messageIn, refused, outcome, readOutcome}
 use Rattle.messages.specs.Writing.{wellShaped, writeRefusal}
 use Rattle.messages.proofs.Header.{clear-structured, clear-major, clear-head}
@@ -59,6 +59,15 @@ pub clear-set : (b : List ℕ) → withReservedClear (withReservedSet b) ≡ wit
 unfolding withReservedClear withReservedSet
 clear-set [] = refl
 clear-set (p ∷ rest) = ap (λ (byte : ℕ). byte ∷ rest) (omega arith)
+
+-- and bit 5 is what they differ in
+pub clear-and-set : (b : List ℕ) → 4 ≤ length b → (reserved (headerIn (withReservedClear b)) ≡ 0) × (reserved (headerIn (withReservedSet b)) ≡ 1)
+unfolding withReservedClear withReservedSet objectsOf
+clear-and-set [] l = absurd (omega arith)
+clear-and-set (p ∷ []) l = absurd (omega arith)
+clear-and-set (p ∷ q ∷ []) l = absurd (omega arith)
+clear-and-set (p ∷ q ∷ r ∷ []) l = absurd (omega arith)
+clear-and-set (p ∷ q ∷ r ∷ s ∷ rest) l = (omega arith, omega arith)
 
 -- so a message with bit 5 set gets what it would get with bit 5 clear
 pub set-as-clear : (b : List ℕ) → readOutcome (withReservedSet b) ≡ readOutcome (withReservedClear b)

@@ -11,7 +11,7 @@ use borrow.Author.Tests.{eqb-true, eqb-false, eq-eqb, ne-eqb}
 use denote.Ref.{RefT}
 use Rattle.laws.proofs.Tight.{one-value}
 use Rattle.pages.specs.Lists.{isIn}
-use Rattle.laptop.specs.Catalogue.{Entry, Catalogue}
+use Rattle.laptop.specs.Catalogue.{Entry}
 use Rattle.catalogue.specs.Bytes.{modesBytes, entryBytes}
 use Rattle.judging.specs.Judging.{Judgement, judgementOf}
 use Rattle.judging.specs.Walking.{svidsOf}

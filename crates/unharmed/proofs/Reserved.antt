@@ -40,33 +40,34 @@ alike : (l : Laptop) (m : Memory) (d : Dock) {w w′ : Way} {f f′ : Fate} {n n
     _≡_ {A = System} (record { laptop = l; memory = m; way = w; fate = f; dock = d; lost = n }) (record { laptop = l; memory = m; way = w′; fate = f′; dock = d; lost = n′ })
 alike l m d ew ef en = λ i. record { laptop = l; memory = m; way = ew i; fate = ef i; dock = d; lost = en i }
 
--- bit 5 of what is on its way may be set
-way-set : (w : Way) → wayClear w ≡ wayClear (wayWith withReservedSet w)
-way-set clear = refl
-way-set (request bytes) = ap request (sym (clear-set bytes))
+-- bytes that are cleared to the same, on their way
+module _ (change : List ℕ → List ℕ) (same : (b : List ℕ) → withReservedClear (change b) ≡ withReservedClear b) where
+  way-with : (w : Way) → wayClear w ≡ wayClear (wayWith change w)
+  way-with clear = refl
+  way-with (request bytes) = ap request (sym (same bytes))
 
-fate-set : (f : Fate) → fateClear f ≡ fateClear (fateWith withReservedSet f)
-fate-set gone = refl
-fate-set (coming bytes) = ap coming (sym (clear-set bytes))
-fate-set (confirmed bytes) = ap confirmed (sym (clear-set bytes))
-fate-set (came b) = refl
+  fate-with : (f : Fate) → fateClear f ≡ fateClear (fateWith change f)
+  fate-with gone = refl
+  fate-with (coming bytes) = ap coming (sym (same bytes))
+  fate-with (confirmed bytes) = ap confirmed (sym (same bytes))
+  fate-with (came b) = refl
 
+  system-with : (s : System) → Alike s (systemWith change s)
+  system-with s = alike (s .laptop) (s .memory) (s .dock) (way-with (s .way)) (fate-with (s .fate)) refl
+
+-- bit 5 may be set
 pub set-alike : (s : System) → Alike s (systemWith withReservedSet s)
-set-alike s = alike (s .laptop) (s .memory) (s .dock) (way-set (s .way)) (fate-set (s .fate)) refl
+set-alike = system-with withReservedSet clear-set
 
--- what is cleared has nothing more to clear
+-- and what is cleared has nothing more to clear
 way-again : (w : Way) → wayClear w ≡ wayClear (wayClear w)
-way-again clear = refl
-way-again (request bytes) = ap request (sym (clear-again bytes))
+way-again = way-with withReservedClear clear-again
 
 fate-again : (f : Fate) → fateClear f ≡ fateClear (fateClear f)
-fate-again gone = refl
-fate-again (coming bytes) = ap coming (sym (clear-again bytes))
-fate-again (confirmed bytes) = ap confirmed (sym (clear-again bytes))
-fate-again (came b) = refl
+fate-again = fate-with withReservedClear clear-again
 
 stays : (s : System) → Alike s (systemClear s)
-stays s = alike (s .laptop) (s .memory) (s .dock) (way-again (s .way)) (fate-again (s .fate)) refl
+stays = system-with withReservedClear clear-again
 
 lost-same : (f : Fate) (n : ℕ) → lostWith f n ≡ lostWith (fateClear f) n
 lost-same gone n = refl

@@ -5,10 +5,18 @@ use second::{dock_events, laptop_events, vectors, watcher};
 
 const SEEDS: [u64; 3] = [1, 2, u64::MAX];
 
-fn lines(answer: impl FnOnce(&mut &[u8], &mut Vec<u8>), stream: &[u8]) -> String {
-    let mut output = Vec::new();
-    answer(&mut &stream[..], &mut output);
-    String::from_utf8(output).unwrap()
+/// The stream, and its bytes with each item flipped, are answered with the same lines.
+fn hold_same(
+    streams: [Vec<u8>; 2],
+    answer: impl Fn(&mut &[u8], &mut Vec<u8>) -> std::io::Result<()>,
+) {
+    assert_ne!(streams[0], streams[1]);
+    let lines = streams.map(|stream| {
+        let mut output = Vec::new();
+        answer(&mut &stream[..], &mut output).unwrap();
+        String::from_utf8(output).unwrap()
+    });
+    assert_eq!(lines[0], lines[1]);
 }
 
 #[test]
@@ -28,57 +36,45 @@ fn a_flipped_header_differs_in_bit_5_alone() {
 #[test]
 fn vectors_are_answered_the_same() {
     for seed in SEEDS {
-        let [mut stream, mut flipped] = [Vec::new(), Vec::new()];
+        let mut streams = [Vec::new(), Vec::new()];
         for vector in vectors::generator::generate(seed) {
-            vector.put(&mut stream).unwrap();
-            vector.with_reserved_flipped().put(&mut flipped).unwrap();
+            vector.put(&mut streams[0]).unwrap();
+            let flipped = vector.with_reserved_flipped();
+            flipped.put(&mut streams[1]).unwrap();
         }
-        assert_ne!(flipped, stream);
-        let answers = [flipped, stream].map(|stream| {
-            lines(
-                |input, output| vectors::answers::print_answers(input, output).unwrap(),
-                &stream,
-            )
+        hold_same(streams, |input, output| {
+            vectors::answers::print_answers(input, output)
         });
-        assert_eq!(answers[0], answers[1]);
     }
 }
 
 #[test]
 fn the_dock_answers_the_same() {
     for seed in SEEDS {
-        let [mut stream, mut flipped] = [Vec::new(), Vec::new()];
+        let mut streams = [Vec::new(), Vec::new()];
         for event in dock_events::generator::generate(seed) {
-            event.put(&mut stream).unwrap();
-            event.with_reserved_flipped().put(&mut flipped).unwrap();
+            event.put(&mut streams[0]).unwrap();
+            let flipped = event.with_reserved_flipped();
+            flipped.put(&mut streams[1]).unwrap();
         }
-        assert_ne!(flipped, stream);
-        let answers = [flipped, stream].map(|stream| {
-            lines(
-                |input, output| dock_events::answers::print_answers(input, output).unwrap(),
-                &stream,
-            )
+        hold_same(streams, |input, output| {
+            dock_events::answers::print_answers(input, output)
         });
-        assert_eq!(answers[0], answers[1]);
     }
 }
 
 #[test]
 fn the_watcher_prints_the_same() {
     for seed in SEEDS {
-        let [mut stream, mut flipped] = [Vec::new(), Vec::new()];
+        let mut streams = [Vec::new(), Vec::new()];
         for event in watcher::generator::generate(seed) {
-            event.put(&mut stream).unwrap();
-            event.with_reserved_flipped().put(&mut flipped).unwrap();
+            event.put(&mut streams[0]).unwrap();
+            let flipped = event.with_reserved_flipped();
+            flipped.put(&mut streams[1]).unwrap();
         }
-        assert_ne!(flipped, stream);
-        let answers = [flipped, stream].map(|stream| {
-            lines(
-                |input, output| watcher::answers::print_answers(input, output).unwrap(),
-                &stream,
-            )
+        hold_same(streams, |input, output| {
+            watcher::answers::print_answers(input, output)
         });
-        assert_eq!(answers[0], answers[1]);
     }
 }
 
@@ -87,18 +83,14 @@ fn the_laptop_answers_the_same() {
     for seed in SEEDS {
         let events = laptop_events::generator::generate(seed);
         let flipped = events.iter().cloned();
-        let flipped: Vec<_> = flipped
-            .map(laptop_events::Event::with_reserved_flipped)
-            .collect();
-        assert_ne!(flipped, events);
-        let answers = [flipped, events].map(|events| {
+        let flipped = flipped.map(laptop_events::Event::with_reserved_flipped);
+        let streams = [events.clone(), flipped.collect()].map(|events| {
             let mut stream = Vec::new();
             laptop_events::put_streams(&[events], &mut stream).unwrap();
-            lines(
-                |input, output| laptop_events::answers::print_answers(input, output).unwrap(),
-                &stream,
-            )
+            stream
         });
-        assert_eq!(answers[0], answers[1]);
+        hold_same(streams, |input, output| {
+            laptop_events::answers::print_answers(input, output)
+        });
     }
 }

@@ -193,7 +193,7 @@ dock-whatever-bit-5 = Dock·effect-same
 pub dock-history-whatever-bit-5 : (history : List (Dock·Call × List ℕ)) (d : Dock) → dockAfter (Dock·allReservedClear history) d ≡ dockAfter history d
 dock-history-whatever-bit-5 = dock-same
 
--- 4 is never given again: no public call answers it, whatever it is lent.
+-- 4 is never given again: no public function answers it, whatever it is lent.
 pub four-is-never-given : (c : AnyCall) → numberGiven c ≡ 4 → ⊥
 four-is-never-given = never-four
 

@@ -1,16 +1,25 @@
--- Every public call that answers by a number, as one, with the number that its promise says (docs/PROMISES.md).
+-- Every public function that answers by a number of its own, as one, with the number that its promise says (docs/PROMISES.md).
 use Prim.Native.Nat.{ℕ}
+use mathlib.Core.Bool.{Bool}
 use mathlib.Core.List.{List}
 use lib.ListN.{length}
 use Rattle.messages.specs.Layout.{Message}
 use Rattle.messages.specs.Reading.{readOutcome, shown, readNumber}
 use Rattle.messages.specs.Writing.{writeRefusal}
+use Rattle.messages.specs.declared.request.Request.{Request}
+use Rattle.dock.specs.Dock.{reply, sending}
+use Rattle.dock.specs.Dock.{sends as Dock·sends}
+use Rattle.dock.specs.Dock.{stepOf as Dock·stepOf}
 use Rattle.dock.specs.declared.Dock.{Dock}
 use Rattle.dock_laws.specs.Effects.{Call as Dock·Call}
 use Rattle.dock_laws.specs.Effects.{effectOf as Dock·effectOf}
+use Rattle.laptop.specs.Calls.{stepOf}
 use Rattle.laptop.specs.State.{Memory}
 use Rattle.laptop.specs.declared.Laptop.{Laptop}
 use Rattle.laptop_laws.specs.Effects.{Call, effectOf}
+use Rattle.owner.specs.Owner.{ownerRefusal, asks}
+use Rattle.gathering.specs.Gathering.{hearIdentity, hearSvids}
+use Rattle.answers.specs.Answers.{hearModes, hearMode}
 use Rattle.catalogue.specs.Bytes.{HeldCatalogue, catalogueRefusal}
 use Rattle.records.specs.Records.{foundNumber}
 use Rattle.records.specs.declared.Found.{Found}
@@ -32,6 +41,15 @@ pub data AnyCall : Type 0 where
   judges : List ℕ → AnyCall
   readsCatalogue : List ℕ → ℕ → AnyCall
   findsStretch : List ℕ → ℕ → AnyCall
+  -- parts that stand between the crates: the dock's answer to a request, of a type, with objects, a page or not; the words of both runs; a request of the
+  -- laptop's; an answer to Identity, SVIDs, Modes, and Enter or Exit, by its type, what it brings and what is lent
+  sendsAnswer : Request → ℕ → List ℕ → Bool → Dock → List ℕ → AnyCall
+  refusesOwner : Laptop → ℕ → ℕ → AnyCall
+  asksFor : Request → Laptop → List ℕ → AnyCall
+  hearsIdentity : Laptop → ℕ → ℕ → List ℕ → List ℕ → List ℕ → AnyCall
+  hearsSvids : Laptop → ℕ → List ℕ → List ℕ → AnyCall
+  hearsModes : Laptop → ℕ → List ℕ → List ℕ → List ℕ → AnyCall
+  hearsMode : Laptop → ℕ → Request → List ℕ → List ℕ → AnyCall
 
 unfoldable pub numberGiven : AnyCall → ℕ
 numberGiven (reads bytes) = readNumber (shown (readOutcome bytes) .outcome)
@@ -43,3 +61,10 @@ numberGiven (tellsFault found) = foundNumber found
 numberGiven (judges bytes) = judgementOf bytes .refusal
 numberGiven (readsCatalogue bytes words) = readAs words (judgementOf bytes) .refusal
 numberGiven (findsStretch bytes svid) = stretchIn (judgementOf bytes) svid .refusal
+numberGiven (sendsAnswer r kind objects isPage d out) = Dock·stepOf d (Dock·sends (reply r kind objects) (sending isPage d)) (length out) .refusal
+numberGiven (refusesOwner l run heldRun) = ownerRefusal l run heldRun
+numberGiven (asksFor r l out) = stepOf l (asks r l) (length out) .refusal
+numberGiven (hearsIdentity l kind n objects svids identity) = hearIdentity l kind n objects svids identity .step .refusal
+numberGiven (hearsSvids l kind values svids) = hearSvids l kind values svids .step .refusal
+numberGiven (hearsModes l kind words modes run) = hearModes l kind words modes run .step .refusal
+numberGiven (hearsMode l kind r heldSvids entered) = hearMode l kind r heldSvids entered .step .refusal

@@ -1,4 +1,4 @@
--- Bit 5 of a message's header means nothing to the functions for C, and none of them returns 4 (02, R-2).
+-- Bit 5 of a message's header means nothing to the functions for C, and none of them gives refusal 4 (02, R-2).
 use mathlib.Core.Logic.{_↔_, _⊎_, inl, inr}
 use mathlib.Core.Path.{_≡_, ap, subst, sym, _∙_}
 use mathlib.Core.List.{List, []}

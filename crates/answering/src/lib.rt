@@ -42,7 +42,8 @@ fn give_identity(dock: Dock, request: Request, out: &mut [u8]) -> Step
 fn give_page(dock: Dock, request: Request, out: &mut [u8]) -> Step
     ensures { λ r. ⌜ Stepped dock (givePage dock request) (now (out .entry)) r (now (out .exit)) ⌝ }
 {
-    let list = first_svids(&dock.svids, dock.count as usize);
+    let svids = dock.svids;
+    let list = first_svids(&svids, dock.count as usize);
     if list.len() == 0 {
         return send_bare(dock, request, NAK, out);
     }

@@ -19,11 +19,13 @@ pub enum Standing {
 }
 
 // The dock's data: identity objects and their extent, which is their number (0: not loaded); SVIDs, their count and the present page; and where it stands.
+// Numbers stand between the two arrays, and no gap before either: then the compiler sees that a copy of the whole has the very array that was lent, and
+// keeps no array of its own.
 pub struct Dock {
     pub identity: [u32; 6],
     pub extent: u8,
-    pub svids: [u16; 72],
     pub count: u8,
+    pub svids: [u16; 72],
     pub page: u8,
     pub standing: Standing,
 }

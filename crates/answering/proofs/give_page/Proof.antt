@@ -16,6 +16,9 @@ use borrow.Author.Needs.{needs}
 use Rattle.answering.proofs.give_page.Statement.{statement}
 use Rattle.answering.proofs.give_page.Tie as tie
 
+slice-aggregate-first-svids : tie.Need-slice-aggregate-first-svids
+slice-aggregate-first-svids c = search needs
+
 cast-first-svids : tie.Need-cast-first-svids
 cast-first-svids c = search needs
 
@@ -30,8 +33,8 @@ same-length c = search needs
 
 returns : tie.Need-returns
 returns c = let a = c .before .before .before .before .before .before .before .before .before .before .args in
-    same (a .t1) _ _ (a .out .now) _ _
-    (page-none (a .t1) (a .request) (sym (ap length (c .before .before .before .before .before .first-svids .ensures)) ∙ c .before .before .before .before .if1 .taken)) (c .before .before .send-bare .ensures)
+    same (a .dock) _ _ (a .out .now) _ _
+    (page-none (a .dock) (a .request) (sym (ap length (c .before .before .before .before .before .first-svids .ensures)) ∙ c .before .before .before .before .if1 .taken)) (c .before .before .send-bare .ensures)
 
 make-page-requires : tie.Need-make-page-requires
 make-page-requires c κs = search needs
@@ -51,17 +54,18 @@ same-length-2 c = search needs
 returns-2 : tie.Need-returns-2
 returns-2 c = let a = c .before .before .before .before .before .before .before .before .before .before .before .before .before .before .before .args in
     let list = c .before .before .before .before .before .before .before .before .before .before .first-svids .ensures in
-    let some : 0 < length (listed (a .t1)) = omega (arith, ap length list, c .before .before .before .before .before .before .before .before .before .if1 .left) in
-    let made = shown-objects _ (a .t1 .page) (c .before .before .before .before .before .before .before .before .make-page .result) (c .before .before .before .before .before .before .before .before .make-page .ensures) in
-    let shown = c .before .before .before .before .first-objects .ensures ∙ made ∙ ap (λ (l : List ℕ). page l (a .t1 .page)) list in
-    same (a .t1) _ _ (a .out .now) _ _
-    (page-given (a .t1) (a .request) some ∙ ap (λ (l : List ℕ). sends (reply (a .request) ack l) (sending true (a .t1))) (sym shown))
+    let some : 0 < length (listed (a .dock)) = omega (arith, ap length list, c .before .before .before .before .before .before .before .before .before .if1 .left) in
+    let made = shown-objects _ (a .dock .page) (c .before .before .before .before .before .before .before .before .make-page .result) (c .before .before .before .before .before .before .before .before .make-page .ensures) in
+    let shown = c .before .before .before .before .first-objects .ensures ∙ made ∙ ap (λ (l : List ℕ). page l (a .dock .page)) list in
+    same (a .dock) _ _ (a .out .now) _ _
+    (page-given (a .dock) (a .request) some ∙ ap (λ (l : List ℕ). sends (reply (a .request) ack l) (sending true (a .dock))) (sym shown))
     (c .before .before .send .ensures)
 
 pub give-page-spec : {M : Type 1} → statement M
 give-page-spec =
     tie.close
     (tie.spec
+    slice-aggregate-first-svids
     cast-first-svids
     first-svids-requires
     send-bare-requires

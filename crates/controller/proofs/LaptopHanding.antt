@@ -1,11 +1,10 @@
 -- What the laptop's calls and catalogue writing hand over: a step that was handed over through a reference that was lent on is handed over in what was lent.
 use mathlib.Core.Path.{_≡_, ap, ap₂, sym, _∙_}
-use mathlib.Core.Bool.{Bool, true, false, not}
+use mathlib.Core.Bool.{Bool, true, false}
 use mathlib.Core.List.{List}
 use Prim.Native.Nat.{ℕ}
 use lib.ListN.{length}
 use denote.Triple.Both.{Both}
-use borrow.Author.Tests.{not-true, not-false}
 use Rattle.messages.specs.Reading.{readOutcome}
 use Rattle.taking.specs.Taking.{sameList}
 use Rattle.laptop.specs.Calls.{Decision, stepOf, bufferOf, Stepped}
@@ -23,16 +22,15 @@ use Rattle.laws.specs.Lent.{Lent, lent, left, accepted}
 use Rattle.controller.specs.Told.{toldNumbers}
 use Rattle.controller.proofs.Accepting.{accepted-written, accepted-kept}
 
--- the state's numbers, where the laptop is another and where it is the same
-module _ (before : List ℕ) (l : Laptop) {stood numbers : List ℕ} {was : Laptop} {t : Bool} (same : t ≡ sameList stood numbers) (stood-is : stood ≡ laptopNumbers was)
-    (was-is : was ≡ laptopFrom before) (numbers-is : numbers ≡ laptopNumbers l) where
-  pub put-other : not t ≡ true → numbers ≡ numbersAfter before l
+-- the state's numbers, where the laptop is the same and where it is another
+module _ (before : List ℕ) (l : Laptop) {was : Laptop} {t : Bool} (same : t ≡ sameList (laptopNumbers was) (laptopNumbers l)) (was-is : was ≡ laptopFrom before) where
+  pub put-same : t ≡ true → before ≡ numbersAfter before l
   unfolding numbersAfter
-  put-other e = rw (← was-is, ← stood-is, ← numbers-is, ← same, not-true t e)
+  put-same e = rw (← was-is, ← same, e)
 
-  pub put-same : not t ≡ false → before ≡ numbersAfter before l
+  pub put-other : t ≡ false → {numbers : List ℕ} → numbers ≡ laptopNumbers l → numbers ≡ numbersAfter before l
   unfolding numbersAfter
-  put-same e = rw (← was-is, ← stood-is, ← numbers-is, ← same, not-false t e)
+  put-other e f = rw (← was-is, ← same, e) f
 
 module _ {step : Step} {number : ℕ} {inner state innerHanded handed : Lent (List ℕ)} (h : LaptopStep step number inner innerHanded)
     (lent-same : lent inner ≡ lent state) (left-same : left inner ≡ left state) (handed-lent : lent innerHanded ≡ lent handed)

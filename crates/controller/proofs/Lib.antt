@@ -4,6 +4,7 @@ pub mod DockHanding
 pub mod DockNumbers
 pub mod LaptopHanding
 pub mod LaptopNumbers
+pub mod LaptopSame
 pub mod Laws
 pub mod Only
 pub mod ReadingBack

@@ -4,6 +4,7 @@
 ghost use mathlib.Core.Path.{_≡_};
 ghost use Rattle.laws.specs.Lent.{lent, left};
 ghost use Rattle.controller.specs.Laptop.{sizeFrom, waitFrom, candidateFrom, heldFrom, laptopFrom, candidateNumber, waitNumbers, heldNumbers, laptopNumbers, numbersAfter};
+use crate::laptop_same::same_laptop;
 use crate::numbers::low_byte;
 use crate::numbers::request_from;
 use laptop::Candidate;
@@ -12,7 +13,6 @@ use laptop::Laptop;
 use laptop::Size;
 use laptop::Wait;
 use messages::Request;
-use taking::same;
 
 fn size_from(extent: u16, count: u16) -> Size
     ensures { λ r. ⌜ r ≡ sizeFrom extent count ⌝ }
@@ -66,7 +66,7 @@ pub(crate) fn laptop_from(state: [u16; 12]) -> Laptop
     }
 }
 
-fn candidate_number(candidate: Candidate) -> u16
+pub(crate) fn candidate_number(candidate: Candidate) -> u16
     ensures { λ r. ⌜ r ≡ candidateNumber candidate ⌝ }
 {
     match candidate {
@@ -128,9 +128,9 @@ pub(crate) fn put_laptop(laptop: Laptop, state: &mut [u16; 12])
     ensures { λ _. ⌜ left state ≡ numbersAfter (lent state) laptop ⌝ }
 {
     let before = *state;
-    let stood = laptop_numbers(laptop_from(before));
-    let numbers = laptop_numbers(laptop);
-    if !same(&stood, &numbers) {
-        *state = numbers;
+    if same_laptop(laptop_from(before), laptop) {
+        return;
     }
+    let numbers = laptop_numbers(laptop);
+    *state = numbers;
 }

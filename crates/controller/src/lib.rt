@@ -9,6 +9,7 @@ mod dock_calls;
 mod dock_state;
 mod laptop_calls;
 mod laptop_owner;
+mod laptop_same;
 mod laptop_state;
 mod laptop_timers;
 mod numbers;

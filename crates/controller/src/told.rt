@@ -52,16 +52,19 @@ fn handed_over(length: u8, told: Told) -> [u32; 7]
     }
 }
 
-// Writes the new state and on acceptance what is handed over into what was lent; gives the refusal number.
+// Writes the new state and on acceptance what is handed over into what was lent; gives the refusal number. The state is written from two places, so that the
+// compiler makes a call of it: in one, the numbers compared there would take stack beside all that is handed over.
 pub(crate) fn hand_over(step: Step, state: &mut [u16; 12], handed: &mut [u32; 7]) -> u8
     ensures { λ r. ⌜ LaptopStep step r state handed ⌝ }
 {
     let laptop = step.laptop;
-    put_laptop(laptop, state);
-    if step.refusal == 0 {
-        let told = step.told;
-        let over = handed_over(step.length, told);
-        *handed = over;
+    if step.refusal != 0 {
+        put_laptop(laptop, state);
+        return step.refusal;
     }
+    put_laptop(laptop, state);
+    let told = step.told;
+    let over = handed_over(step.length, told);
+    *handed = over;
     step.refusal
 }

@@ -1,4 +1,6 @@
 """Cases that the counting is held to: small functions in assembly, with the stack that they take."""
+import contextlib
+import io
 import pathlib
 import subprocess
 import tempfile
@@ -6,10 +8,11 @@ import unittest
 
 import disassembly
 import frames
+import measure
 
 
-def measured(code, name="start"):
-    """The deepest chain from a function down, and the way, in code where each label `f:` begins a function of its own section."""
+def assembled(code):
+    """The library of code where each label `f:` begins a function of its own section."""
     text = ".intel_syntax noprefix\n"
     for line in code.strip().splitlines():
         label = line.strip().removesuffix(":")
@@ -19,8 +22,13 @@ def measured(code, name="start"):
     with tempfile.TemporaryDirectory() as folder:
         source, made = pathlib.Path(folder, "code.s"), pathlib.Path(folder, "code.o")
         source.write_text(text)
-        subprocess.run(["as", "--64", "-o", str(made), str(source)], check=True)
-        return frames.chain(name, disassembly.read(str(made)), {})
+        subprocess.run(["x86_64-linux-gnu-as", "-o", str(made), str(source)], check=True)
+        return disassembly.read(str(made))
+
+
+def measured(code):
+    """The deepest chain from the function start down, and the way."""
+    return frames.chain("start", assembled(code), {})
 
 
 class Counting(unittest.TestCase):
@@ -97,6 +105,30 @@ class Counting(unittest.TestCase):
 
     def test_left_on_the_stack(self):
         self.refuses("start:\n push rbx\n ret", "left on the stack")
+
+
+class Limits(unittest.TestCase):
+    def missed(self, exported, limits, *faults):
+        self.assertEqual(list(measure.limits_missed(exported.split(), limits)), list(faults))
+
+    def test_each_call_has_one(self):
+        self.missed("here there", {"here": 8, "there": 512})
+        self.missed("here there", {"here": 8}, "there has no limit")
+
+    def test_nothing_else_has_one(self):
+        self.missed("here", {"here": 8, "there": 8}, "there has a limit, and is not exported")
+
+    def test_over_the_most(self):
+        self.missed("here", {"here": 513}, "here has a limit of 513 bytes, over 512")
+
+    def test_a_chain_at_and_over_its_limit(self):
+        library = assembled("start:\n push rbx\n pop rbx\n ret")
+        with contextlib.redirect_stdout(io.StringIO()):
+            self.assertEqual(measure.measured(["start"], library, {"start": 16}), ({"start": 16}, []))
+            self.assertEqual(measure.measured(["start"], library, {"start": 15})[1], ["start takes 16 bytes, over its limit of 15"])
+
+    def test_those_of_the_library(self):
+        self.assertLessEqual(measure.read_limits(measure.LIMITS)["laptop_message"], 400)
 
 
 if __name__ == "__main__":

@@ -30,7 +30,7 @@ class Library:
 
 
 def objdump(*words):
-    return subprocess.run(["objdump", *words], check=True, capture_output=True, text=True).stdout
+    return subprocess.run(["x86_64-linux-gnu-objdump", *words], check=True, capture_output=True, text=True).stdout
 
 
 def symbol_of(text):

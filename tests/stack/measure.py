@@ -1,4 +1,4 @@
-"""Prints the stack of each public call: its frame, the deepest chain of frames from it down, and the way."""
+"""Prints the stack of each exported call: its frame, the deepest chain of frames from it down, its limit, and the way."""
 import pathlib
 import re
 import sys
@@ -6,7 +6,9 @@ import sys
 import disassembly
 import frames
 
-MOST = 1024
+# No limit may be over this.
+MOST = 512
+LIMITS = pathlib.Path(__file__).with_name("limits")
 LIBRARY = "target/staticlib/libcontroller.a"
 EXPORTED = re.compile(r'#\[no_mangle\]\s+pub extern "C" fn (\w+)')
 PUBLIC = re.compile(r"^pub (?:use \w+::|fn )([a-z]\w*)", re.MULTILINE)
@@ -33,6 +35,27 @@ def public_calls(root):
             yield f"{crate}::{name}"
 
 
+def read_limits(path):
+    """Each call's limit: a line for each, its name and a number of bytes."""
+    lines = [line.split() for line in path.read_text().splitlines() if line and not line.startswith("#")]
+    limits = {name: int(number) for name, number in lines}
+    if len(limits) != len(lines):
+        raise ValueError(f"{path}: a call has two limits")
+    return limits
+
+
+def limits_missed(exported, limits):
+    """What is wrong with the limits themselves: each exported call has one, of at most MOST bytes, and nothing else does."""
+    for name in exported:
+        if name not in limits:
+            yield f"{name} has no limit"
+    for name, limit in limits.items():
+        if name not in exported:
+            yield f"{name} has a limit, and is not exported"
+        if limit > MOST:
+            yield f"{name} has a limit of {limit} bytes, over {MOST}"
+
+
 def complaints(root, exported, library):
     """What is missing: a public call that nothing exports, or an exported function that the library lacks."""
     text = sources(root, "controller")
@@ -44,21 +67,29 @@ def complaints(root, exported, library):
             yield f"{name} is not in {LIBRARY}"
 
 
-def main(root):
-    library = disassembly.read(str(root / LIBRARY))
-    exported = EXPORTED.findall(sources(root, "controller"))
-    faults = list(complaints(root, exported, library))
-    known, chains = {}, {}
-    print(f"{'call':22} {'frame':>5} {'chain':>6}  way down")
-    for name in exported:
+def measured(exported, library, limits):
+    """Prints a line for each call; gives the chains, and what cannot be counted or is over its limit."""
+    known, chains, faults = {}, {}, []
+    print(f"{'call':22} {'frame':>5} {'chain':>6} {'limit':>6}  way down")
+    for name in filter(library.functions.__contains__, exported):
         try:
             chains[name], way = frames.chain(name, library, known)
         except frames.Uncounted as fault:
             faults.append(str(fault))
             continue
-        print(f"{name:22} {known[name].size:5} {chains[name]:6}  {' > '.join(way)}")
-        if chains[name] > MOST:
-            faults.append(f"{name} takes {chains[name]} bytes, over {MOST}")
+        limit = limits.get(name, 0)
+        print(f"{name:22} {known[name].size:5} {chains[name]:6} {limit:6}  {' > '.join(way)}")
+        if chains[name] > limit:
+            faults.append(f"{name} takes {chains[name]} bytes, over its limit of {limit}")
+    return chains, faults
+
+
+def main(root):
+    library = disassembly.read(str(root / LIBRARY))
+    exported = EXPORTED.findall(sources(root, "controller"))
+    limits = read_limits(LIMITS)
+    chains, over = measured(exported, library, limits)
+    faults = [*complaints(root, exported, library), *limits_missed(exported, limits), *over]
     for fault in faults:
         print(f"stack: {fault}", file=sys.stderr)
     if chains:

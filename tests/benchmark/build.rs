@@ -1,10 +1,17 @@
-//! Links the proved libraries from the folder that GRAFTPIGEON_LIBRARY names.
+//! Links the proved libraries from the folder that GRAFTPIGEON_PROVED names.
 
 use std::env;
 use std::fs;
 
-const FOLDER: &str = "GRAFTPIGEON_LIBRARY";
-const LIBRARIES: [&str; 2] = ["exports", "controller"];
+const FOLDER: &str = "GRAFTPIGEON_PROVED";
+const LIBRARIES: &[&str] = &[
+    "exports",
+    "controller",
+    #[cfg(feature = "beside")]
+    "beside_exports",
+    #[cfg(feature = "beside")]
+    "beside_controller",
+];
 
 fn main() {
     println!("cargo:rerun-if-env-changed={FOLDER}");

@@ -1,5 +1,9 @@
-//! The proved laptop's message call, as the library exports it.
+//! What is measured of the proved libraries: those of this commit and, with the feature `beside`,
+//! those of another.
 
+use crate::plain_reader::Lent;
+use crate::reading::{self, Answer};
+use crate::reading_back;
 use second::catalogue::RUN_WORDS;
 use second::messages::MOST_AFTER_HEADER;
 use second::pages::MOST_SVIDS;
@@ -22,26 +26,6 @@ pub struct Memory {
     entered: [u8; MOST_SVIDS],
 }
 
-extern "C" {
-    fn laptop_message(
-        state: *mut u16,
-        bytes: *const u8,
-        length: usize,
-        svids: *mut u16,
-        modes: *mut u8,
-        identity: *mut u32,
-        run: *mut u32,
-        run_words: usize,
-        held_svids: *mut u16,
-        held_modes: *mut u8,
-        held_identity: *mut u32,
-        held_run: *mut u32,
-        held_run_words: usize,
-        entered: *mut u8,
-        handed: *mut u32,
-    ) -> u8;
-}
-
 impl Memory {
     pub fn empty() -> Self {
         Memory {
@@ -56,29 +40,127 @@ impl Memory {
             entered: [0; MOST_SVIDS],
         }
     }
-
-    #[inline(never)]
-    pub fn message(&mut self, state: &mut State, bytes: &[u8], handed: &mut Handed) -> u8 {
-        // SAFETY: each array has the length that the library's function names, and a slice goes
-        // with its length.
-        unsafe {
-            laptop_message(
-                state.as_mut_ptr(),
-                bytes.as_ptr(),
-                bytes.len(),
-                self.svids.as_mut_ptr(),
-                self.modes.as_mut_ptr(),
-                self.identity.as_mut_ptr(),
-                self.run.as_mut_ptr(),
-                self.run.len(),
-                self.held_svids.as_mut_ptr(),
-                self.held_modes.as_mut_ptr(),
-                self.held_identity.as_mut_ptr(),
-                self.held_run.as_mut_ptr(),
-                self.held_run.len(),
-                self.entered.as_mut_ptr(),
-                handed.as_mut_ptr(),
-            )
-        }
-    }
 }
+
+/// The functions and the program of one commit.
+pub struct Library {
+    pub name: &'static str,
+    pub read: reading::Reader,
+    pub message: fn(&mut Memory, &mut State, &[u8], &mut Handed) -> u8,
+    pub read_back: reading_back::Reader,
+    pub watcher: &'static str,
+}
+
+/// A library whose symbols, and the file of whose watcher, begin with the prefix. It is a macro
+/// since the name of a symbol has to be a literal.
+macro_rules! library {
+    ($name:literal, $prefix:literal) => {{
+        extern "C" {
+            #[link_name = concat!($prefix, "exports_read")]
+            fn exports_read(bytes: *const u8, length: usize, into: *mut u32) -> u8;
+            #[link_name = concat!($prefix, "laptop_message")]
+            fn laptop_message(
+                state: *mut u16,
+                bytes: *const u8,
+                length: usize,
+                svids: *mut u16,
+                modes: *mut u8,
+                identity: *mut u32,
+                run: *mut u32,
+                run_words: usize,
+                held_svids: *mut u16,
+                held_modes: *mut u8,
+                held_identity: *mut u32,
+                held_run: *mut u32,
+                held_run_words: usize,
+                entered: *mut u8,
+                handed: *mut u32,
+            ) -> u8;
+            #[link_name = concat!($prefix, "catalogue_read")]
+            fn catalogue_read(
+                bytes: *const u8,
+                length: usize,
+                svids: *mut u16,
+                modes: *mut u8,
+                identity: *mut u32,
+                run: *mut u32,
+                run_words: usize,
+                sizes: *mut u16,
+            ) -> u32;
+        }
+
+        #[inline(never)]
+        fn read(bytes: &[u8], into: &mut Answer) -> u8 {
+            // SAFETY: it reads `length` bytes and writes eleven words or none.
+            unsafe { exports_read(bytes.as_ptr(), bytes.len(), into.as_mut_ptr()) }
+        }
+
+        #[inline(never)]
+        fn message(
+            memory: &mut Memory,
+            state: &mut State,
+            bytes: &[u8],
+            handed: &mut Handed,
+        ) -> u8 {
+            // SAFETY: each array has the length that the library's function names, and a slice
+            // goes with its length.
+            unsafe {
+                laptop_message(
+                    state.as_mut_ptr(),
+                    bytes.as_ptr(),
+                    bytes.len(),
+                    memory.svids.as_mut_ptr(),
+                    memory.modes.as_mut_ptr(),
+                    memory.identity.as_mut_ptr(),
+                    memory.run.as_mut_ptr(),
+                    memory.run.len(),
+                    memory.held_svids.as_mut_ptr(),
+                    memory.held_modes.as_mut_ptr(),
+                    memory.held_identity.as_mut_ptr(),
+                    memory.held_run.as_mut_ptr(),
+                    memory.held_run.len(),
+                    memory.entered.as_mut_ptr(),
+                    handed.as_mut_ptr(),
+                )
+            }
+        }
+
+        #[inline(never)]
+        fn read_back(bytes: &[u8], lent: &mut Lent) -> u32 {
+            // SAFETY: as above.
+            unsafe {
+                catalogue_read(
+                    bytes.as_ptr(),
+                    bytes.len(),
+                    lent.svids.as_mut_ptr(),
+                    lent.modes.as_mut_ptr(),
+                    lent.identity.as_mut_ptr(),
+                    lent.run.as_mut_ptr(),
+                    lent.run.len(),
+                    lent.sizes.as_mut_ptr(),
+                )
+            }
+        }
+
+        Library {
+            name: $name,
+            read,
+            message,
+            read_back,
+            watcher: concat!($prefix, "watcher"),
+        }
+    }};
+}
+
+pub const LIBRARIES: &[Library] = &[
+    library!("proved", ""),
+    #[cfg(feature = "beside")]
+    library!("beside", "beside_"),
+];
+
+/// The libraries' sides and Rust's, in words.
+pub const ALL_SIDES: &str = if LIBRARIES.len() == 1 {
+    "both sides"
+} else {
+    "all three sides"
+};

@@ -1,5 +1,6 @@
-//! Reading messages: both sides' answers to recorded inputs, then their speed.
+//! Reading messages: the sides' answers to recorded inputs, then their speed.
 
+use crate::proved::{ALL_SIDES, LIBRARIES};
 use crate::rounds;
 use second::messages::{
     flip_reserved, has_reserved, read, write, ACK, ATTENTION, BUSY, ENTER, EXIT, IDENTITY,
@@ -22,9 +23,9 @@ const RESERVED_ONE_IN: usize = 50;
 const FAULTS: [u8; 4] = [NOT_WHOLE_OBJECTS, NOT_STRUCTURED, UNREAD_MAJOR, WRONG_SHAPE];
 
 /// SVID, command, type, position, number of objects after the header, then their six words.
-type Answer = [u32; 11];
+pub type Answer = [u32; 11];
 /// Leaves the answer alone on a refusal.
-type Reader = fn(&[u8], &mut Answer) -> u8;
+pub type Reader = fn(&[u8], &mut Answer) -> u8;
 /// What an answer holds before the call.
 const UNTOUCHED: Answer = [0xA5A5_A5A5; 11];
 
@@ -53,16 +54,6 @@ const MESSAGES: [(u8, u8, usize, usize); 16] = [
     (EXIT, NAK, 0, 0),
     (ATTENTION, REQ, 0, 1),
 ];
-
-extern "C" {
-    fn exports_read(bytes: *const u8, length: usize, into: *mut u32) -> u8;
-}
-
-#[inline(never)]
-fn proved_read(bytes: &[u8], into: &mut Answer) -> u8 {
-    // SAFETY: it reads `length` bytes and writes eleven words or none.
-    unsafe { exports_read(bytes.as_ptr(), bytes.len(), into.as_mut_ptr()) }
-}
 
 #[inline(never)]
 fn rust_read(bytes: &[u8], into: &mut Answer) -> u8 {
@@ -146,19 +137,25 @@ type Counts = [usize; 6];
 fn compare_answers(inputs: &Inputs) -> Counts {
     let mut counts = Counts::default();
     for message in inputs.messages() {
-        let (mut proved, mut rust) = (UNTOUCHED, UNTOUCHED);
-        let proved_number = proved_read(message, &mut proved);
+        let mut rust = UNTOUCHED;
         let rust_number = rust_read(message, &mut rust);
-        assert_eq!(
-            (proved_number, proved),
-            (rust_number, rust),
-            "proved (left) and Rust (right) differ on {message:02X?}"
-        );
+        for library in LIBRARIES {
+            let mut proved = UNTOUCHED;
+            let proved_number = (library.read)(message, &mut proved);
+            assert_eq!(
+                (proved_number, proved),
+                (rust_number, rust),
+                "{} (left) and Rust (right) differ on {message:02X?}",
+                library.name
+            );
+        }
         counts[usize::from(rust_number)] += 1;
     }
     counts
 }
 
+/// Not inlined: all sides run through the same loop.
+#[inline(never)]
 fn read_all(reader: Reader, inputs: &Inputs) {
     let reader = black_box(reader);
     let mut answer = UNTOUCHED;
@@ -171,7 +168,7 @@ fn read_all(reader: Reader, inputs: &Inputs) {
 pub fn measure() {
     let inputs = Inputs::record();
     let counts = compare_answers(&inputs);
-    println!("reading {INPUTS} messages, both sides answer alike");
+    println!("reading {INPUTS} messages, {ALL_SIDES} answer alike");
     assert_eq!(counts[usize::from(WITHDRAWN)], 0);
     println!("accepted: {}", counts[usize::from(ACCEPTED)]);
     let messages = inputs.messages();
@@ -182,7 +179,7 @@ pub fn measure() {
     }
     rounds::compare(
         INPUTS,
-        || read_all(proved_read, &inputs),
+        |library| read_all(library.read, &inputs),
         || read_all(rust_read, &inputs),
     );
 }

@@ -1,7 +1,8 @@
-//! Reading a catalogue's bytes back: both sides' answers to recorded files, then their speed by
+//! Reading a catalogue's bytes back: the sides' answers to recorded files, then their speed by
 //! sort of file.
 
 use crate::plain_reader::{self, Lent};
+use crate::proved::{ALL_SIDES, LIBRARIES};
 use crate::rounds;
 use second::catalogue::{Catalogue, MOST_CATALOGUE_BYTES, MOST_MODES, RUN_WORDS};
 use second::messages::MOST_AFTER_HEADER;
@@ -30,38 +31,7 @@ const UNTOUCHED: Lent = Lent {
 };
 
 /// Gives the refusal number in the low eight bits and the offset above them.
-type Reader = fn(&[u8], &mut Lent) -> u32;
-
-extern "C" {
-    fn catalogue_read(
-        bytes: *const u8,
-        length: usize,
-        svids: *mut u16,
-        modes: *mut u8,
-        identity: *mut u32,
-        run: *mut u32,
-        run_words: usize,
-        sizes: *mut u16,
-    ) -> u32;
-}
-
-#[inline(never)]
-fn proved_read(bytes: &[u8], lent: &mut Lent) -> u32 {
-    // SAFETY: each array has the length that the library's function names, and a slice goes with
-    // its length.
-    unsafe {
-        catalogue_read(
-            bytes.as_ptr(),
-            bytes.len(),
-            lent.svids.as_mut_ptr(),
-            lent.modes.as_mut_ptr(),
-            lent.identity.as_mut_ptr(),
-            lent.run.as_mut_ptr(),
-            lent.run.len(),
-            lent.sizes.as_mut_ptr(),
-        )
-    }
-}
+pub type Reader = fn(&[u8], &mut Lent) -> u32;
 
 /// A sound file of drawn numbers.
 fn drawn_file(svids: usize, modes: usize, random: &mut Random) -> Vec<u8> {
@@ -111,19 +81,25 @@ type Counts = [usize; BYTES_AFTER_END as usize + 1];
 fn compare_answers(files: &[Vec<u8>]) -> Counts {
     let mut counts = Counts::default();
     for bytes in files {
-        let (mut proved, mut plain) = (UNTOUCHED, UNTOUCHED);
-        let proved_result = proved_read(bytes, &mut proved);
+        let mut plain = UNTOUCHED;
         let plain_result = plain_reader::read(bytes, &mut plain);
-        assert_eq!(
-            (proved_result, proved),
-            (plain_result, plain),
-            "proved (left) and Rust (right) differ on {bytes:02X?}"
-        );
+        for library in LIBRARIES {
+            let mut proved = UNTOUCHED;
+            let proved_result = (library.read_back)(bytes, &mut proved);
+            assert_eq!(
+                (proved_result, &proved),
+                (plain_result, &plain),
+                "{} (left) and Rust (right) differ on {bytes:02X?}",
+                library.name
+            );
+        }
         counts[(plain_result & NUMBER) as usize] += 1;
     }
     counts
 }
 
+/// Not inlined: all sides run through the same loop.
+#[inline(never)]
 fn read_all(reader: Reader, files: &[Vec<u8>]) {
     let reader = black_box(reader);
     let mut lent = UNTOUCHED;
@@ -137,7 +113,7 @@ fn measure_sort(name: &str, files: &[Vec<u8>]) {
     let counts = compare_answers(files);
     let bytes: usize = files.iter().map(Vec::len).sum();
     println!(
-        "\n{name}: reading back {} files of {} bytes on average, both sides answer alike",
+        "\n{name}: reading back {} files of {} bytes on average, {ALL_SIDES} answer alike",
         files.len(),
         bytes / files.len()
     );
@@ -149,7 +125,7 @@ fn measure_sort(name: &str, files: &[Vec<u8>]) {
     }
     rounds::compare(
         files.len(),
-        || read_all(proved_read, files),
+        |library| read_all(library.read_back, files),
         || read_all(plain_reader::read, files),
     );
 }

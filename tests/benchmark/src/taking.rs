@@ -1,8 +1,8 @@
-//! Taking a page: the laptop's message call on recorded pages, both sides' answers, then their
+//! Taking a page: the laptop's message call on recorded pages, the sides' answers, then their
 //! speed by kind of page.
 
 use crate::plain;
-use crate::proved;
+use crate::proved::{self, Library, ALL_SIDES, LIBRARIES};
 use crate::rounds;
 use second::messages::{write, Request, ACK, OBJECT_BYTES, PD_SID, SVIDS};
 use second::pages::{page, MOST_SVIDS, PAGE_SVIDS};
@@ -18,6 +18,8 @@ const PAGES: usize = 20_000;
 const FULL_PAGES: usize = MOST_SVIDS / PAGE_SVIDS;
 const IDENTITY_OBJECTS: u8 = 3;
 const FIRST_HALF: u32 = 16;
+/// What is handed over before the call.
+const UNTOUCHED: proved::Handed = [9; 7];
 
 const AWAITED: Request = Request {
     svid: PD_SID,
@@ -121,6 +123,7 @@ fn numbers(state: &plain::State) -> proved::State {
     numbers
 }
 
+/// All libraries are lent the same memory: a page leaves it as it was.
 struct Sides {
     proved: Vec<proved::Memory>,
     plain: Vec<plain::Laptop>,
@@ -145,34 +148,38 @@ impl Sides {
 
     /// Gives the answer, and panics where the sides differ.
     fn compare(&mut self, input: &Input) -> u8 {
-        let (mut proved_handed, mut plain_handed) = ([9; 7], [9; 7]);
-        let mut state = proved_state(input.gathered);
-        let memory = &mut self.proved[input.list];
-        let number = memory.message(&mut state, &input.bytes, &mut proved_handed);
+        let mut handed = UNTOUCHED;
         let laptop = &mut self.plain[input.list];
         laptop.state = plain_state(input.gathered);
-        let other = laptop.message(&input.bytes, &mut plain_handed);
-        assert_eq!(
-            (number, state, memory.svids, proved_handed),
-            (
-                other,
-                numbers(&laptop.state),
-                laptop.candidate.svids,
-                plain_handed
-            ),
-            "proved (left) and Rust (right) differ on {:02X?} after {} SVIDs",
-            input.bytes,
-            input.gathered
-        );
+        let number = laptop.message(&input.bytes, &mut handed);
+        let state = numbers(&laptop.state);
+        let plain = (number, state, laptop.candidate.svids, handed);
+        let memory = &mut self.proved[input.list];
+        for library in LIBRARIES {
+            let (mut state, mut handed) = (proved_state(input.gathered), UNTOUCHED);
+            let number = (library.message)(memory, &mut state, &input.bytes, &mut handed);
+            assert_eq!(
+                (number, state, memory.svids, handed),
+                plain,
+                "{} (left) and Rust (right) differ on {:02X?} after {} SVIDs",
+                library.name,
+                input.bytes,
+                input.gathered
+            );
+        }
         number
     }
 }
 
-fn proved_round(laptops: &mut [proved::Memory], inputs: &[Input]) {
+/// Not inlined: all libraries run through the same loop.
+#[inline(never)]
+fn proved_round(library: &Library, laptops: &mut [proved::Memory], inputs: &[Input]) {
+    let message = black_box(library.message);
     let mut handed = [0; 7];
     for input in inputs {
         let mut state = proved_state(input.gathered);
-        black_box(laptops[input.list].message(&mut state, &input.bytes, &mut handed));
+        let memory = &mut laptops[input.list];
+        black_box(message(memory, &mut state, &input.bytes, &mut handed));
         black_box((&state, &handed));
     }
 }
@@ -202,7 +209,7 @@ pub fn measure() {
             .iter()
             .filter(|input| sides.compare(input) != ACCEPTED)
             .count();
-        println!("\n{kind:?}: taking {PAGES} pages, both sides answer alike, {refused} refused");
+        println!("\n{kind:?}: taking {PAGES} pages, {ALL_SIDES} answer alike, {refused} refused");
         time(&mut sides, &inputs);
         all.extend(inputs);
     }
@@ -214,7 +221,7 @@ fn time(sides: &mut Sides, inputs: &[Input]) {
     let Sides { proved, plain } = sides;
     rounds::compare(
         inputs.len(),
-        || proved_round(proved, inputs),
+        |library| proved_round(library, proved, inputs),
         || plain_round(plain, inputs),
     );
 }

@@ -1,6 +1,7 @@
-//! The watcher: both programs on one stream of a million events, their lines compared, then their
-//! time.
+//! The watcher: the sides' programs on one stream of a million events, their lines compared, then
+//! their time.
 
+use crate::proved::{Library, ALL_SIDES, LIBRARIES};
 use crate::rounds;
 use std::env;
 use std::fs;
@@ -15,19 +16,20 @@ pub fn measure() {
     let folder = env::temp_dir();
     let stream = folder.join("graftpigeon-watcher-stream");
     fs::write(&stream, generated()).expect("the stream can be written");
-    let proved =
-        PathBuf::from(env::var("GRAFTPIGEON_WATCHER").expect("tests/benchmark/run sets it"));
-    let rust = beside("watcher");
-    let lines = run(&proved, &stream);
-    assert_eq!(lines, run(&rust, &stream), "the watchers' lines differ");
+    let rust = second("watcher");
+    let lines = run(&rust, &stream);
+    for library in LIBRARIES {
+        let same = run(&proved(library), &stream) == lines;
+        assert!(same, "the lines of {} and Rust differ", library.name);
+    }
     assert!(lines.ends_with(format!("end {EVENTS} events\n").as_bytes()));
     println!(
-        "\nwatcher: {EVENTS} events, both sides print the same {} bytes",
+        "\nwatcher: {EVENTS} events, {ALL_SIDES} print the same {} bytes",
         lines.len()
     );
     rounds::compare(
         EVENTS,
-        || drop(run(&proved, &stream)),
+        |library| drop(run(&proved(library), &stream)),
         || drop(run(&rust, &stream)),
     );
     fs::remove_file(&stream).expect("the stream can be removed");
@@ -35,7 +37,7 @@ pub fn measure() {
 
 fn generated() -> Vec<u8> {
     (1..=SEEDS)
-        .flat_map(|seed| output(Command::new(beside("generate_watcher")).arg(seed.to_string())))
+        .flat_map(|seed| output(Command::new(second("generate_watcher")).arg(seed.to_string())))
         .collect()
 }
 
@@ -53,8 +55,13 @@ fn output(command: &mut Command) -> Vec<u8> {
     done.stdout
 }
 
+fn proved(library: &Library) -> PathBuf {
+    let folder = env::var("GRAFTPIGEON_PROVED").expect("tests/benchmark/run sets it");
+    Path::new(&folder).join(library.watcher)
+}
+
 /// A program of the second implementation.
-fn beside(name: &str) -> PathBuf {
+fn second(name: &str) -> PathBuf {
     Path::new(env!("CARGO_MANIFEST_DIR"))
         .join("../second/target/release")
         .join(name)

@@ -1,5 +1,5 @@
--- What the laptop's calls and catalogue writing hand over: a step that was handed over through a reference that was lent on is handed over in what was lent.
-use mathlib.Core.Path.{_≡_, ap, ap₂, sym, _∙_}
+-- What the laptop's calls and catalogue writing hand over.
+use mathlib.Core.Path.{_≡_, ap, _∙_}
 use mathlib.Core.Bool.{Bool, true, false}
 use mathlib.Core.List.{List}
 use Prim.Native.Nat.{ℕ}
@@ -32,17 +32,15 @@ module _ (before : List ℕ) (l : Laptop) {was : Laptop} {t : Bool} (same : t �
   unfolding numbersAfter
   put-other e f = rw (← was-is, ← same, e) f
 
-module _ {step : Step} {number : ℕ} {inner state innerHanded handed : Lent (List ℕ)} (h : LaptopStep step number inner innerHanded)
-    (lent-same : lent inner ≡ lent state) (left-same : left inner ≡ left state) (handed-lent : lent innerHanded ≡ lent handed)
-    (handed-left : left innerHanded ≡ left handed) where
+-- the state's numbers put, and what is handed over, are a step handed over
+module _ {step : Step} {number : ℕ} {state handed : Lent (List ℕ)} (put : left state ≡ numbersAfter (lent state) (step .laptop))
+    (over : (number ≡ step .refusal) × (left handed ≡ accepted number (toldNumbers (step .length) (step .told)) (lent handed))) where
   step-in : (step' : Step) → step ≡ step' → LaptopStep step' number state handed
   step-in step' e =
       record {
-        number-is = h .number-is ∙ ap (λ (s : Step). s .refusal) e;
-        state-is = sym left-same ∙ h .state-is ∙ ap₂ (λ (s : Step) (before : List ℕ). numbersAfter before (s .laptop)) e lent-same;
-        handed-is =
-            sym handed-left ∙ h .handed-is ∙
-            ap₂ (λ (s : Step) (before : List ℕ). accepted number (toldNumbers (s .length) (s .told)) before) e handed-lent;
+        number-is = over .0 ∙ ap (λ (s : Step). s .refusal) e;
+        state-is = put ∙ ap (λ (s : Step). numbersAfter (lent state) (s .laptop)) e;
+        handed-is = over .1 ∙ ap (λ (s : Step). accepted number (toldNumbers (s .length) (s .told)) (lent handed)) e;
       }
 
   module _ {l : Laptop} (laptop-is : l ≡ laptopFrom (lent state)) where

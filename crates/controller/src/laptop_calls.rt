@@ -8,6 +8,7 @@ ghost use Rattle.controller.specs.LaptopCalls.{LaptopHears};
 ghost use Rattle.laws.specs.Lent.{lent, left};
 use crate::laptop_state::laptop_from;
 use crate::laptop_state::laptop_numbers;
+use crate::laptop_state::put_laptop;
 use crate::told::hand_over;
 
 // A fresh laptop.
@@ -52,7 +53,9 @@ pub extern "C" fn laptop_message(
         held_run,
         entered,
     );
-    hand_over(step, state, handed)
+    let after = step.laptop;
+    put_laptop(after, state);
+    hand_over(step, handed)
 }
 
 // How many modes of the SVID are entered.

@@ -4,6 +4,7 @@ ghost use Rattle.owner.specs.Owner.{decideNext, decideStartOver, decideDrop, de
 ghost use Rattle.controller.specs.LaptopCalls.{LaptopSends};
 ghost use Rattle.laws.specs.Lent.{lent};
 use crate::laptop_state::laptop_from;
+use crate::laptop_state::put_laptop;
 use crate::told::hand_over;
 
 #[no_mangle]
@@ -20,7 +21,9 @@ pub extern "C" fn laptop_next(
 {
     let before = *state;
     let step = owner::next(laptop_from(before), svids, entered, run, held_run, out);
-    hand_over(step, state, handed)
+    let after = step.laptop;
+    put_laptop(after, state);
+    hand_over(step, handed)
 }
 
 #[no_mangle]
@@ -36,7 +39,9 @@ pub extern "C" fn laptop_start_over(
 {
     let before = *state;
     let step = owner::start_over(laptop_from(before), entered, run, held_run, out);
-    hand_over(step, state, handed)
+    let after = step.laptop;
+    put_laptop(after, state);
+    hand_over(step, handed)
 }
 
 #[no_mangle]
@@ -51,7 +56,9 @@ pub extern "C" fn laptop_drop(
 {
     let before = *state;
     let step = owner::drop(laptop_from(before), run, held_run, out);
-    hand_over(step, state, handed)
+    let after = step.laptop;
+    put_laptop(after, state);
+    hand_over(step, handed)
 }
 
 #[no_mangle]
@@ -83,7 +90,9 @@ pub extern "C" fn laptop_enter(
         held_run,
         out,
     );
-    hand_over(step, state, handed)
+    let after = step.laptop;
+    put_laptop(after, state);
+    hand_over(step, handed)
 }
 
 #[no_mangle]
@@ -115,5 +124,7 @@ pub extern "C" fn laptop_exit(
         held_run,
         out,
     );
-    hand_over(step, state, handed)
+    let after = step.laptop;
+    put_laptop(after, state);
+    hand_over(step, handed)
 }

@@ -2,6 +2,7 @@
 ghost use Rattle.timers.specs.Timers.{decideTimer, decideError};
 ghost use Rattle.controller.specs.LaptopCalls.{LaptopSendsNothing};
 use crate::laptop_state::laptop_from;
+use crate::laptop_state::put_laptop;
 use crate::told::hand_over;
 
 #[no_mangle]
@@ -9,7 +10,10 @@ pub extern "C" fn laptop_response_timer(state: &mut [u16; 12], handed: &mut [u32
     ensures { λ r. ⌜ LaptopSendsNothing (λ l. decideTimer 1 3 l (l .wait)) r state handed ⌝ }
 {
     let before = *state;
-    hand_over(timers::response_timer(laptop_from(before)), state, handed)
+    let step = timers::response_timer(laptop_from(before));
+    let after = step.laptop;
+    put_laptop(after, state);
+    hand_over(step, handed)
 }
 
 #[no_mangle]
@@ -17,7 +21,10 @@ pub extern "C" fn laptop_entry_timer(state: &mut [u16; 12], handed: &mut [u32; 7
     ensures { λ r. ⌜ LaptopSendsNothing (λ l. decideTimer 4 4 l (l .wait)) r state handed ⌝ }
 {
     let before = *state;
-    hand_over(timers::entry_timer(laptop_from(before)), state, handed)
+    let step = timers::entry_timer(laptop_from(before));
+    let after = step.laptop;
+    put_laptop(after, state);
+    hand_over(step, handed)
 }
 
 #[no_mangle]
@@ -25,7 +32,10 @@ pub extern "C" fn laptop_exit_timer(state: &mut [u16; 12], handed: &mut [u32; 7]
     ensures { λ r. ⌜ LaptopSendsNothing (λ l. decideTimer 5 5 l (l .wait)) r state handed ⌝ }
 {
     let before = *state;
-    hand_over(timers::exit_timer(laptop_from(before)), state, handed)
+    let step = timers::exit_timer(laptop_from(before));
+    let after = step.laptop;
+    put_laptop(after, state);
+    hand_over(step, handed)
 }
 
 #[no_mangle]
@@ -33,5 +43,8 @@ pub extern "C" fn laptop_protocol_error(state: &mut [u16; 12], handed: &mut [u32
     ensures { λ r. ⌜ LaptopSendsNothing (λ l. decideError l (l .wait)) r state handed ⌝ }
 {
     let before = *state;
-    hand_over(timers::protocol_error(laptop_from(before)), state, handed)
+    let step = timers::protocol_error(laptop_from(before));
+    let after = step.laptop;
+    put_laptop(after, state);
+    hand_over(step, handed)
 }

@@ -2,9 +2,8 @@
 // is told (0 nothing, 1 an Attention, 2 NAK, 3 BUSY, 4 a timer, 5 a protocol error); the SVID, command and position of the request, or of the
 // Attention, with how many objects follow its header and that object.
 ghost use mathlib.Core.Path.{_≡_};
-ghost use Rattle.controller.specs.LaptopCalls.{LaptopStep};
+ghost use Rattle.laws.specs.Lent.{lent, left, accepted};
 ghost use Rattle.controller.specs.Told.{requestNumbers, noticeNumbers, toldNumbers};
-use crate::laptop_state::put_laptop;
 use laptop::Notice;
 use laptop::Step;
 use laptop::Told;
@@ -52,19 +51,14 @@ fn handed_over(length: u8, told: Told) -> [u32; 7]
     }
 }
 
-// Writes the new state and on acceptance what is handed over into what was lent; gives the refusal number. The state is written from two places, so that the
-// compiler makes a call of it: in one, the numbers compared there would take stack beside all that is handed over.
-pub(crate) fn hand_over(step: Step, state: &mut [u16; 12], handed: &mut [u32; 7]) -> u8
-    ensures { λ r. ⌜ LaptopStep step r state handed ⌝ }
+// On acceptance writes what is handed over into what was lent; gives the refusal number.
+pub(crate) fn hand_over(step: Step, handed: &mut [u32; 7]) -> u8
+    ensures { λ r. ⌜ (r ≡ step .refusal) × (left handed ≡ accepted r (toldNumbers (step .length) (step .told)) (lent handed)) ⌝ }
 {
-    let laptop = step.laptop;
-    if step.refusal != 0 {
-        put_laptop(laptop, state);
-        return step.refusal;
+    if step.refusal == 0 {
+        let told = step.told;
+        let over = handed_over(step.length, told);
+        *handed = over;
     }
-    put_laptop(laptop, state);
-    let told = step.told;
-    let over = handed_over(step.length, told);
-    *handed = over;
     step.refusal
 }

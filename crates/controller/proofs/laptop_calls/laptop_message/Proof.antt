@@ -1,5 +1,4 @@
 -- `laptop_message` meets its promise.
-use mathlib.Core.Path.{refl}
 use Rattle.controller.proofs.LaptopHanding.{hears-in}
 use borrow.Author.Needs.{needs}
 use Rattle.controller.proofs.laptop_calls.laptop_message.Statement.{statement}
@@ -11,6 +10,9 @@ laptop-from-requires c κs = search needs
 message-requires : tie.Need-message-requires
 message-requires c κs = search needs
 
+put-laptop-requires : tie.Need-put-laptop-requires
+put-laptop-requires c κs = search needs
+
 hand-over-requires : tie.Need-hand-over-requires
 hand-over-requires c κs = search needs
 
@@ -21,7 +23,7 @@ same-length-2 : tie.Need-same-length-2
 same-length-2 c = search needs
 
 returns : tie.Need-returns
-returns c = hears-in (c .hand-over .ensures) refl refl refl refl (c .before .before .before .before .before .before .before .before .before .before .before .before .before .before .before .before .before .laptop-from .ensures) (c .before .before .before .before .before .before .before .message .ensures)
+returns c = hears-in (c .before .before .put-laptop .ensures) (c .hand-over .ensures) (c .before .before .before .before .before .before .before .before .before .before .before .before .before .before .before .before .before .before .before .laptop-from .ensures) (c .before .before .before .before .before .before .before .before .before .message .ensures)
 
 pub laptop-message-spec : {M : Type 1} → statement M
 laptop-message-spec =
@@ -29,6 +31,7 @@ laptop-message-spec =
     (tie.spec
     laptop-from-requires
     message-requires
+    put-laptop-requires
     hand-over-requires
     same-length
     same-length-2

@@ -1,5 +1,4 @@
 -- `laptop_drop` meets its promise.
-use mathlib.Core.Path.{refl}
 use Rattle.controller.proofs.LaptopHanding.{sends-in}
 use borrow.Author.Needs.{needs}
 use Rattle.controller.proofs.laptop_owner.laptop_drop.Statement.{statement}
@@ -11,6 +10,9 @@ laptop-from-requires c κs = search needs
 drop-requires : tie.Need-drop-requires
 drop-requires c κs = search needs
 
+put-laptop-requires : tie.Need-put-laptop-requires
+put-laptop-requires c κs = search needs
+
 hand-over-requires : tie.Need-hand-over-requires
 hand-over-requires c κs = search needs
 
@@ -18,8 +20,8 @@ same-length : tie.Need-same-length
 same-length c = search needs
 
 returns : tie.Need-returns
-returns c = sends-in (c .hand-over .ensures) refl refl refl refl (c .before .before .before .before .before .before .before .laptop-from .ensures) (c .before .before .before .before .before .drop .ensures)
+returns c = sends-in (c .before .before .put-laptop .ensures) (c .hand-over .ensures) (c .before .before .before .before .before .before .before .before .before .laptop-from .ensures) (c .before .before .before .before .before .before .before .drop .ensures)
 
 pub laptop-drop-spec : {M : Type 1} → statement M
 laptop-drop-spec =
-    tie.close (tie.spec laptop-from-requires drop-requires hand-over-requires same-length returns)
+    tie.close (tie.spec laptop-from-requires drop-requires put-laptop-requires hand-over-requires same-length returns)

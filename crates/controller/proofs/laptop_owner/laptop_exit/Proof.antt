@@ -1,5 +1,4 @@
 -- `laptop_exit` meets its promise.
-use mathlib.Core.Path.{refl}
 use Rattle.controller.proofs.LaptopHanding.{sends-in}
 use borrow.Author.Needs.{needs}
 use Rattle.controller.proofs.laptop_owner.laptop_exit.Statement.{statement}
@@ -11,6 +10,9 @@ laptop-from-requires c κs = search needs
 exit-requires : tie.Need-exit-requires
 exit-requires c κs = search needs
 
+put-laptop-requires : tie.Need-put-laptop-requires
+put-laptop-requires c κs = search needs
+
 hand-over-requires : tie.Need-hand-over-requires
 hand-over-requires c κs = search needs
 
@@ -18,8 +20,8 @@ same-length : tie.Need-same-length
 same-length c = search needs
 
 returns : tie.Need-returns
-returns c = sends-in (c .hand-over .ensures) refl refl refl refl (c .before .before .before .before .before .before .before .laptop-from .ensures) (c .before .before .before .before .before .exit .ensures)
+returns c = sends-in (c .before .before .put-laptop .ensures) (c .hand-over .ensures) (c .before .before .before .before .before .before .before .before .before .laptop-from .ensures) (c .before .before .before .before .before .before .before .exit .ensures)
 
 pub laptop-exit-spec : {M : Type 1} → statement M
 laptop-exit-spec =
-    tie.close (tie.spec laptop-from-requires exit-requires hand-over-requires same-length returns)
+    tie.close (tie.spec laptop-from-requires exit-requires put-laptop-requires hand-over-requires same-length returns)

@@ -1,0 +1,147 @@
+// The laptop that a side sees, and its result put back.
+ghost use mathlib.Core.Path.{_≡_};
+ghost use Rattle.port.specs.Sides.{sameSide, isOthers, waitSeen, waitNamed, waitPut, ownOf, ownIn, putBack, steppedOn};
+ghost use Rattle.port.specs.Sides.{seen as Sides·seen};
+use crate::Own;
+use crate::Port;
+use crate::Side;
+use crate::Step;
+use crate::Wait;
+use laptop::Laptop;
+
+fn same_side(a: Side, b: Side) -> bool
+    ensures { λ r. ⌜ r ≡ sameSide a b ⌝ }
+{
+    let Side::Partner = a else {
+        let Side::Cable = b else {
+            return false;
+        };
+        return true;
+    };
+    let Side::Partner = b else {
+        return false;
+    };
+    true
+}
+
+// Is the other side's answer awaited?
+fn is_others(side: Side, wait: Wait) -> bool
+    ensures { λ r. ⌜ r ≡ isOthers side wait ⌝ }
+{
+    let Wait::Answer(named, _) = wait else {
+        return false;
+    };
+    !same_side(named, side)
+}
+
+// To a side, what the other awaits is nothing.
+fn wait_seen(side: Side, wait: Wait) -> laptop::Wait
+    ensures { λ r. ⌜ r ≡ waitSeen side wait ⌝ }
+{
+    let Wait::Answer(named, request) = wait else {
+        return laptop::Wait::Nothing;
+    };
+    if same_side(named, side) {
+        return laptop::Wait::Answer(request);
+    }
+    laptop::Wait::Nothing
+}
+
+fn wait_named(side: Side, wait: laptop::Wait) -> Wait
+    ensures { λ r. ⌜ r ≡ waitNamed side wait ⌝ }
+{
+    let laptop::Wait::Answer(request) = wait else {
+        return Wait::Nothing;
+    };
+    Wait::Answer(side, request)
+}
+
+// What a side awaits afterwards; what the other awaits stays.
+fn wait_put(side: Side, after: laptop::Wait, before: Wait) -> Wait
+    ensures { λ r. ⌜ r ≡ waitPut side after before ⌝ }
+{
+    if is_others(side, before) {
+        return before;
+    }
+    wait_named(side, after)
+}
+
+fn own_of(side: Side, port: Port) -> Own
+    ensures { λ r. ⌜ r ≡ ownOf side port ⌝ }
+{
+    match side {
+        Side::Partner => port.partner,
+        Side::Cable => port.cable,
+    }
+}
+
+pub(crate) fn own_in(laptop: Laptop) -> Own
+    ensures { λ r. ⌜ r ≡ ownIn laptop ⌝ }
+{
+    let candidate = laptop.candidate;
+    let gathered = laptop.gathered;
+    let held = laptop.held;
+    Own {
+        candidate,
+        gathered,
+        stored: laptop.stored,
+        pages: laptop.pages,
+        held,
+    }
+}
+
+// The laptop of document 01 that a side sees.
+pub fn seen(side: Side, port: Port) -> Laptop
+    ensures { λ r. ⌜ r ≡ Sides·seen side port ⌝ }
+{
+    let wait = port.wait;
+    let own = own_of(side, port);
+    let candidate = own.candidate;
+    let gathered = own.gathered;
+    let held = own.held;
+    Laptop {
+        wait: wait_seen(side, wait),
+        candidate,
+        gathered,
+        stored: own.stored,
+        pages: own.pages,
+        held,
+    }
+}
+
+// The port once a side's laptop has become this one: nothing of the other side changes.
+fn put_back(side: Side, laptop: Laptop, port: Port) -> Port
+    ensures { λ r. ⌜ r ≡ putBack side laptop port ⌝ }
+{
+    let before = port.wait;
+    let after = laptop.wait;
+    let wait = wait_put(side, after, before);
+    let own = own_in(laptop);
+    match side {
+        Side::Partner => Port {
+            wait,
+            partner: own,
+            ..port
+        },
+        Side::Cable => Port {
+            wait,
+            cable: own,
+            ..port
+        },
+    }
+}
+
+// What a call of document 01 on a side gave, as the port's.
+pub(crate) fn stepped_on(side: Side, port: Port, step: laptop::Step) -> Step
+    ensures { λ r. ⌜ r ≡ steppedOn side port step ⌝ }
+{
+    let told = step.told;
+    let after = step.laptop;
+    Step {
+        refusal: step.refusal,
+        length: step.length,
+        told,
+        side,
+        port: put_back(side, after, port),
+    }
+}

@@ -1,0 +1,3 @@
+-- What the two sides keep from each other, a file for each topic.
+pub mod Seeing
+pub mod Sides

@@ -1,3 +1,5 @@
 -- What the two sides keep from each other, a file for each topic.
+pub mod Isolation
+pub mod OneCall
 pub mod Seeing
 pub mod Sides

@@ -6,7 +6,7 @@ use Prim.Native.Nat.{ℕ}
 use lib.Dec.{eqb}
 use lib.ListN.{length, getD}
 use Rattle.messages.specs.Layout.{Message, req}
-use Rattle.messages.specs.Reading.{Outcome, accepted, refused, readOutcome}
+use Rattle.messages.specs.Reading.{Outcome, accepted, refused}
 use Rattle.messages.specs.Requests.{attentionCommand}
 use Rattle.laptop.specs.Calls.{Decision, refuses, refusedBy, acceptedWith, stepOf, bufferOf, unless, shortRuns, isAwaiting}
 use Rattle.laptop.specs.State.{Memory, dropped}
@@ -19,16 +19,15 @@ use Rattle.owner.specs.Owner.{ownerRefusal, anyEntered, askingRefusal, decideNe
 use Rattle.timers.specs.Timers.{decideTimer, decideError}
 use Rattle.laptop_laws.specs.Effects.{effectOf as Laptop·effectOf}
 use Rattle.laptop_laws.specs.Effects.{decided}
-use Rattle.laptop_laws.specs.Effects.{Effect as Laptop·Effect}
 use Rattle.port.specs.Calls.{isWaiting, ownersRefusal, waitingSide}
-use Rattle.port.specs.Sides.{isOthers, seen, putBack, steppedOn}
+use Rattle.port.specs.Sides.{isOthers, seen, steppedOn}
 use Rattle.port.specs.declared.Port.{Port}
 use Rattle.port.specs.declared.Side.{Side}
 use Rattle.port.specs.declared.Side.the-variants.{Partner}
 use Rattle.port.specs.declared.Wait.{Wait}
-use Rattle.port.specs.declared.Wait.the-variants.{Nothing, Answer}
+use Rattle.port.specs.declared.Wait.the-variants.{Nothing}
 use Rattle.port_laws.specs.Effects.{Call, message, next, startOver, drop, enter, exit, timer, protocolError, oneSided, concerns, isOwners, Effect, effectOf, decidedOn, waitersEffect, onSide}
-use Rattle.port_laws.proofs.Sides.{waits-seen, put-seen, nothing-seen}
+use Rattle.port_laws.proofs.Sides.{waits-seen, nothing-seen}
 
 -- a message to a laptop that awaits nothing leaves it awaiting nothing
 module _ (l : Laptop) (m : Memory) (idle : l .wait ≡ Laptop·Nothing) where
@@ -138,13 +137,13 @@ abbrev pub refusedNine : Port → Memory → List ℕ → Effect
 refusedNine p m out = record { step = steppedOn Partner p (refusedBy 9 (seen Partner p)); after = m; buffer = out }
 
 module _ (p : Port) (idle : p .wait ≡ Nothing) (m : Memory) (out : List ℕ) where
-  timer-nine : (first last : ℕ) → waitersEffect p m out (λ l. decideTimer first last l (l .wait)) ≡ refusedNine p m out
+  pub timer-nine : (first last : ℕ) → waitersEffect p m out (λ l. decideTimer first last l (l .wait)) ≡ refusedNine p m out
   unfolding decideTimer stepOf bufferOf
   timer-nine first last =
       ap (λ (w : Wait). decidedOn (waitingSide w) p m out (decideTimer first last (seen (waitingSide w) p) (seen (waitingSide w) p .wait))) idle ∙
       ap (λ (w : Laptop·Wait). decidedOn Partner p m out (decideTimer first last (seen Partner p) w)) (nothing-seen Partner p idle)
 
-  error-nine : waitersEffect p m out (λ l. decideError l (l .wait)) ≡ refusedNine p m out
+  pub error-nine : waitersEffect p m out (λ l. decideError l (l .wait)) ≡ refusedNine p m out
   unfolding decideError stepOf bufferOf
   error-nine =
       ap (λ (w : Wait). decidedOn (waitingSide w) p m out (decideError (seen (waitingSide w) p) (seen (waitingSide w) p .wait))) idle ∙

@@ -1,6 +1,6 @@
 -- What a side sees once a laptop has been put back.
 use mathlib.Core.Path.{_≡_, refl, ap, sym, _∙_}
-use mathlib.Core.Bool.{Bool, true, false, false≢true}
+use mathlib.Core.Bool.{true, false, false≢true}
 use Rattle.laptop.specs.Calls.{isAwaiting}
 use Rattle.laptop.specs.declared.Laptop.{Laptop}
 use Rattle.laptop.specs.declared.Wait.{Wait as Laptop·Wait}

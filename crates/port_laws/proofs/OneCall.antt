@@ -1,0 +1,284 @@
+-- The two sides keep to themselves (02, R-4): one call, in any state.
+use mathlib.Core.Path.{_≡_, refl, ap, sym, _∙_}
+use mathlib.Core.Bool.{Bool, true, false, not, _&&_, _||_, false≢true}
+use mathlib.Core.List.{List}
+use Prim.Native.Nat.{ℕ}
+use lib.ListN.{length}
+use Rattle.messages.specs.Reading.{readOutcome}
+use Rattle.laptop.specs.Calls.{Decision, refusedBy, stepOf, bufferOf, unless, shortRuns}
+use Rattle.laptop.specs.State.{Memory}
+use Rattle.laptop.specs.declared.Laptop.{Laptop}
+use Rattle.laptop.specs.declared.Wait.{Wait as Laptop·Wait}
+use Rattle.laptop.specs.declared.Wait.the-variants.{Nothing as Laptop·Nothing}
+use Rattle.owner.specs.Owner.{ownerRefusal, askingRefusal, decideNext, decideStartOver, decideDrop, decideEnter, decideExit}
+use Rattle.timers.specs.Timers.{decideTimer, decideError}
+use Rattle.laptop_laws.specs.Effects.{timer as Laptop·timer}
+use Rattle.laptop_laws.specs.Effects.{protocolError as Laptop·protocolError}
+use Rattle.laptop_laws.specs.Effects.{decided}
+use Rattle.laptop_laws.specs.Effects.{effectOf as Laptop·effectOf}
+use Rattle.laptop_laws.specs.Effects.{Effect as Laptop·Effect}
+use Rattle.port.specs.Calls.{isWaiting, ownersRefusal, waitingSide}
+use Rattle.port.specs.Sides.{sameSide, isOthers, seen, putBack, steppedOn}
+use Rattle.port.specs.declared.Port.{Port}
+use Rattle.port.specs.declared.Side.{Side}
+use Rattle.port.specs.declared.Side.the-variants.{Partner, Cable}
+use Rattle.port.specs.declared.Wait.{Wait}
+use Rattle.port.specs.declared.Wait.the-variants.{Nothing}
+use Rattle.port.specs.declared.Wait.the-variants.{Answer as Wait·Answer}
+use Rattle.port_laws.specs.Effects.{Call, message, next, startOver, drop, enter, exit, timer, protocolError, oneSided, concerns, isOwners, Effect, decidedOn, effectOf, onSide, Kept, memoryOf, ofSide, keptOn, effectIn, keptBy, Answer, answerOf, answerOnSide}
+use Rattle.port_laws.specs.Leaving.{isOthersCall, isBlocked, isLeftOut, laptopBy}
+use Rattle.port_laws.proofs.Seeing.{message-idle, effect-seen, refusedNine, timer-nine, error-nine}
+use Rattle.port_laws.proofs.Sides.{other-unchanged, seen-put, seen-put-idle, put-seen, idle-seen, nothing-seen, same-side, Waits, own-waits, other-waits, none-waits, waits}
+
+-- a call on a side leaves the other's memory, and puts its own
+memory-own : (s : Side) (e : Effect) (k : Kept) → memoryOf s (keptOn s e k) ≡ e .after
+memory-own Partner e k = refl
+memory-own Cable e k = refl
+
+memory-other : (s t : Side) (e : Effect) (k : Kept) → sameSide s t ≡ false → memoryOf t (keptOn s e k) ≡ memoryOf t k
+memory-other Partner Partner e k f = absurd (false≢true (sym f))
+memory-other Partner Cable e k f = refl
+memory-other Cable Partner e k f = refl
+memory-other Cable Cable e k f = absurd (false≢true (sym f))
+
+pub port-on : (s : Side) (e : Effect) (k : Kept) → keptOn s e k .port ≡ e .step .port
+port-on Partner e k = refl
+port-on Cable e k = refl
+
+kept-same : (s : Side) (k : Kept) (e : Effect) → e .step .port ≡ k .port → e .after ≡ memoryOf s k → keptOn s e k ≡ k
+kept-same Partner k e f g = rw (f, g)
+kept-same Cable k e f g = rw (f, g)
+
+shared : (side : Side) (j k : Kept) → seen side (j .port) ≡ seen side (k .port) → memoryOf side j ≡ memoryOf side k → ofSide side j ≡ ofSide side k
+shared side j k e f = ap (λ (l : Laptop). record { laptop = l; memory = memoryOf side j }) e ∙ ap (λ (m : Memory). record { laptop = seen side (k .port); memory = m }) f
+
+-- the effect on a side is always put back on that side
+pub put-on : (c : Call) (p : Port) (m : Memory) (out : List ℕ) → (l : Laptop) × (effectOf c p m out .step .port ≡ putBack (concerns c (p .wait)) l p)
+put-on (message s bytes) p m out = (_, refl)
+put-on (next s) p m out = (_, refl)
+put-on (startOver s) p m out = (_, refl)
+put-on (drop s) p m out = (_, refl)
+put-on (enter s svid position) p m out = (_, refl)
+put-on (exit s svid position) p m out = (_, refl)
+put-on (timer first last) p m out = (_, refl)
+put-on protocolError p m out = (_, refl)
+
+not-same : (t : Bool) → not t ≡ true → t ≡ false
+not-same true e = sym e
+not-same false e = refl
+
+waiting-other : (side : Side) (w : Wait) → isOthers side w ≡ true → sameSide (waitingSide w) side ≡ false
+waiting-other side w e = go (waits side w)
+  where
+    go : Waits side w → sameSide (waitingSide w) side ≡ false
+    go (own-waits f g) = absurd (false≢true (sym g ∙ e))
+    go (other-waits f g) = f
+    go (none-waits f) = absurd (false≢true (sym (ap (isOthers side) f) ∙ e))
+
+-- an event of the other side concerns the other side
+concerns-other : (side : Side) (c : Call) (w : Wait) → isOthersCall side c w ≡ true → sameSide (concerns c w) side ≡ false
+concerns-other side (message s bytes) w e = not-same (sameSide s side) e
+concerns-other side (next s) w e = not-same (sameSide s side) e
+concerns-other side (startOver s) w e = not-same (sameSide s side) e
+concerns-other side (drop s) w e = not-same (sameSide s side) e
+concerns-other side (enter s svid position) w e = not-same (sameSide s side) e
+concerns-other side (exit s svid position) w e = not-same (sameSide s side) e
+concerns-other side (timer first last) w e = waiting-other side w e
+concerns-other side protocolError w e = waiting-other side w e
+
+module _ (side : Side) (c : Call) (out : List ℕ) (k : Kept) where
+  -- ONE CALL. The other side's leaves a side as it was, whatever the state
+  pub others-change-nothing : isOthersCall side c (k .port .wait) ≡ true → ofSide side (keptBy c out k) ≡ ofSide side k
+  others-change-nothing e =
+      let away = concerns-other side c (k .port .wait) e in
+      let put = put-on c (k .port) (memoryOf (concerns c (k .port .wait)) k) out in
+      shared side _ _
+      (ap (seen side) (port-on (concerns c (k .port .wait)) (effectIn c out k) k ∙ put .1) ∙ other-unchanged (concerns c (k .port .wait)) side (put .0) (k .port) away)
+      (memory-other (concerns c (k .port .wait)) side (effectIn c out k) k away)
+
+-- a call that concerns a side and is not blocked, where a laptop of 01 that awaits nothing would await nothing
+module _ (side : Side) (c : Call) (out : List ℕ) (k : Kept) where
+  abbrev l : Laptop
+  l = seen side (k .port)
+
+  abbrev m : Memory
+  m = memoryOf side k
+
+  abbrev one : Laptop·Effect
+  one = Laptop·effectOf (oneSided c) l m out
+
+  abbrev pub AsLaptop : Type 0
+  AsLaptop = (ofSide side (keptBy c out k) ≡ laptopBy (oneSided c) out (ofSide side k)) × (answerOf (effectIn c out k) ≡ answerOnSide one)
+
+  effect-is : concerns c (k .port .wait) ≡ side → isBlocked side c k ≡ false → effectIn c out k ≡ onSide side (k .port) one
+  effect-is at free =
+      ap (λ (s : Side). effectOf c (k .port) (memoryOf s k) out) at ∙ effect-seen side (k .port) m out c at free
+
+  at-side : concerns c (k .port .wait) ≡ side → isBlocked side c k ≡ false →
+      (isOthers side (k .port .wait) ≡ true → one .step .laptop .wait ≡ Laptop·Nothing) → AsLaptop
+  at-side at free idle = (
+    ap (ofSide side) kept ∙ shared-laptop (seen-after (isOthers side (k .port .wait)) refl) (memory-own side _ k),
+    ap answerOf (effect-is at free),
+  )
+    where
+      kept : keptBy c out k ≡ keptOn side (onSide side (k .port) one) k
+      kept = ap (λ (s : Side). keptOn s (effectIn c out k) k) at ∙ ap (λ (e : Effect). keptOn side e k) (effect-is at free)
+
+      seen-after : (t : Bool) → isOthers side (k .port .wait) ≡ t → seen side (keptOn side (onSide side (k .port) one) k .port) ≡ one .step .laptop
+      seen-after true e =
+          ap (seen side) (port-on side (onSide side (k .port) one) k) ∙ seen-put-idle side (one .step .laptop) (k .port) e (idle e)
+      seen-after false e =
+          ap (seen side) (port-on side (onSide side (k .port) one) k) ∙ seen-put side (one .step .laptop) (k .port) e
+
+      shared-laptop : seen side (keptOn side (onSide side (k .port) one) k .port) ≡ one .step .laptop →
+          memoryOf side (keptOn side (onSide side (k .port) one) k) ≡ one .after →
+          ofSide side (keptOn side (onSide side (k .port) one) k) ≡ laptopBy (oneSided c) out (ofSide side k)
+      shared-laptop e f =
+          ap (λ (x : Laptop). record { laptop = x; memory = memoryOf side (keptOn side (onSide side (k .port) one) k) }) e ∙
+          ap (λ (x : Memory). record { laptop = one .step .laptop; memory = x }) f
+
+-- an owner's call with a short run leaves the laptop as it was
+short-leaves : (c : Call) (l : Laptop) (m : Memory) (out : List ℕ) → isOwners c ≡ true → shortRuns (length (m .run)) (length (m .heldRun)) ≡ true →
+    Laptop·effectOf (oneSided c) l m out .step .laptop ≡ l
+unfolding decideNext decideStartOver decideDrop decideEnter decideExit askingRefusal ownerRefusal unless stepOf
+short-leaves (message s bytes) l m out o e = absurd (false≢true o)
+short-leaves (next s) l m out o e = rw e
+short-leaves (startOver s) l m out o e = rw e
+short-leaves (drop s) l m out o e = rw e
+short-leaves (enter s svid position) l m out o e = rw e
+short-leaves (exit s svid position) l m out o e = rw e
+short-leaves (timer first last) l m out o e = absurd (false≢true o)
+short-leaves protocolError l m out o e = absurd (false≢true o)
+
+-- where the other waits, such a call of the side leaves it awaiting nothing
+owners-idle : (side : Side) (c : Call) (out : List ℕ) (k : Kept) → isOwners c ≡ true → isBlocked side c k ≡ false → isOthers side (k .port .wait) ≡ true →
+    Laptop·effectOf (oneSided c) (seen side (k .port)) (memoryOf side k) out .step .laptop .wait ≡ Laptop·Nothing
+owners-idle side c out k o free others =
+    ap (λ (x : Laptop). x .wait) (short-leaves c (seen side (k .port)) (memoryOf side k) out o
+    (short (isOwners c) (isOthers side (k .port .wait)) (shortRuns (length (memoryOf side k .run)) (length (memoryOf side k .heldRun))) o others free)) ∙
+    idle-seen side (k .port) others
+  where
+    short : (a b t : Bool) → a ≡ true → b ≡ true → a && (b && not t) ≡ false → t ≡ true
+    short a b true e f g = refl
+    short true true false e f g = absurd (false≢true (sym g))
+    short true false false e f g = absurd (false≢true f)
+    short false b false e f g = absurd (false≢true e)
+
+-- a timer or the protocol error while nothing is awaited
+module _ (side : Side) (out : List ℕ) (k : Kept) (none : k .port .wait ≡ Nothing) where
+  pub idle-kept : (e : Effect) → e ≡ refusedNine (k .port) (k .partner) out → keptOn Partner e k ≡ k
+  idle-kept e f = ap (λ (x : Effect). keptOn Partner x k) f ∙ kept-same Partner k (refusedNine (k .port) (k .partner) out) (put-seen Partner (k .port)) refl
+
+  idle-as-laptop : (c : Call) → concerns c (k .port .wait) ≡ Partner → effectOf c (k .port) (k .partner) out ≡ refusedNine (k .port) (k .partner) out →
+      Laptop·effectOf (oneSided c) (seen side (k .port)) (memoryOf side k) out ≡
+      record { step = refusedBy 9 (seen side (k .port)); after = memoryOf side k; buffer = out } →
+      AsLaptop side c out k
+  idle-as-laptop c at e f = (
+    ap (ofSide side) (ap (λ (s : Side). keptOn s (effectOf c (k .port) (memoryOf s k) out) k) at ∙ idle-kept _ e) ∙
+        sym (ap (λ (x : Laptop·Effect). record { laptop = x .step .laptop; memory = x .after }) f),
+    ap answerOf (ap (λ (s : Side). effectOf c (k .port) (memoryOf s k) out) at ∙ e) ∙ sym (ap answerOnSide f),
+  )
+
+  nine-timer : (first last : ℕ) → Laptop·effectOf (Laptop·timer first last) (seen side (k .port)) (memoryOf side k) out ≡
+      record { step = refusedBy 9 (seen side (k .port)); after = memoryOf side k; buffer = out }
+  unfolding decideTimer stepOf bufferOf
+  nine-timer first last = ap (λ (w : Laptop·Wait). decided (seen side (k .port)) (memoryOf side k) out (decideTimer first last (seen side (k .port)) w)) (nothing-seen side (k .port) none)
+
+  nine-error : Laptop·effectOf Laptop·protocolError (seen side (k .port)) (memoryOf side k) out ≡
+      record { step = refusedBy 9 (seen side (k .port)); after = memoryOf side k; buffer = out }
+  unfolding decideError stepOf bufferOf
+  nine-error = ap (λ (w : Laptop·Wait). decided (seen side (k .port)) (memoryOf side k) out (decideError (seen side (k .port)) w)) (nothing-seen side (k .port) none)
+
+pub own-side : (s side : Side) → not (sameSide s side) ≡ false → s ≡ side
+own-side s side e = same-side s side (go (sameSide s side) e)
+  where
+    go : (t : Bool) → not t ≡ false → t ≡ true
+    go true e = refl
+    go false e = sym e
+
+parts : (a b : Bool) → a || b ≡ false → (a ≡ false) × (b ≡ false)
+parts true b e = absurd (false≢true (sym e))
+parts false b e = (refl, e)
+
+pub kept-in : (side : Side) (c : Call) (k : Kept) → isLeftOut side c k ≡ false → (isOthersCall side c (k .port .wait) ≡ false) × (isBlocked side c k ≡ false)
+kept-in side c k e = parts (isOthersCall side c (k .port .wait)) (isBlocked side c k) e
+
+owned : (side : Side) (c : Call) (out : List ℕ) (k : Kept) → isOwners c ≡ true → concerns c (k .port .wait) ≡ side → isBlocked side c k ≡ false →
+    AsLaptop side c out k
+owned side c out k o at free = at-side side c out k at free (owners-idle side c out k o free)
+
+-- ONE CALL. The side's own, unless it is refused 7 because the other waits, is 01's on what the side sees: state, memory, and answer
+pub own-as-laptop : (side : Side) (c : Call) (out : List ℕ) (k : Kept) → isLeftOut side c k ≡ false → AsLaptop side c out k
+own-as-laptop side (message s bytes) out k e =
+    at-side side (message s bytes) out k (own-side s side (kept-in side (message s bytes) k e .0)) (kept-in side (message s bytes) k e .1)
+    (λ o. message-idle (seen side (k .port)) (memoryOf side k) (idle-seen side (k .port) o) (readOutcome bytes))
+own-as-laptop side (next s) out k e = owned side (next s) out k refl (own-side s side (kept-in side (next s) k e .0)) (kept-in side (next s) k e .1)
+own-as-laptop side (startOver s) out k e = owned side (startOver s) out k refl (own-side s side (kept-in side (startOver s) k e .0)) (kept-in side (startOver s) k e .1)
+own-as-laptop side (drop s) out k e = owned side (drop s) out k refl (own-side s side (kept-in side (drop s) k e .0)) (kept-in side (drop s) k e .1)
+own-as-laptop side (enter s svid position) out k e = owned side (enter s svid position) out k refl (own-side s side (kept-in side (enter s svid position) k e .0)) (kept-in side (enter s svid position) k e .1)
+own-as-laptop side (exit s svid position) out k e = owned side (exit s svid position) out k refl (own-side s side (kept-in side (exit s svid position) k e .0)) (kept-in side (exit s svid position) k e .1)
+own-as-laptop side (timer first last) out k e = go (waits side (k .port .wait))
+  where
+    go : Waits side (k .port .wait) → AsLaptop side (timer first last) out k
+    go (own-waits f g) = at-side side (timer first last) out k f refl (λ o. absurd (false≢true (sym g ∙ o)))
+    go (other-waits f g) = absurd (false≢true (sym (kept-in side (timer first last) k e .0) ∙ g))
+    go (none-waits f) =
+        idle-as-laptop side out k f (timer first last) (ap waitingSide f) (timer-nine (k .port) f (k .partner) out first last) (nine-timer side out k f first last)
+own-as-laptop side protocolError out k e = go (waits side (k .port .wait))
+  where
+    go : Waits side (k .port .wait) → AsLaptop side protocolError out k
+    go (own-waits f g) = at-side side protocolError out k f refl (λ o. absurd (false≢true (sym g ∙ o)))
+    go (other-waits f g) = absurd (false≢true (sym (kept-in side protocolError k e .0) ∙ g))
+    go (none-waits f) = idle-as-laptop side out k f protocolError (ap waitingSide f) (error-nine (k .port) f (k .partner) out) (nine-error side out k f)
+
+-- ONE CALL. Refused 7 because the other side waits, it changes nothing at all
+abbrev pub ChangesNothing : Call → List ℕ → Kept → Type 0
+ChangesNothing c out k = (keptBy c out k ≡ k) × (effectIn c out k .step .refusal ≡ 7)
+
+module _ (side : Side) (out : List ℕ) (k : Kept) (others : isOthers side (k .port .wait) ≡ true)
+    (long : shortRuns (length (memoryOf side k .run)) (length (memoryOf side k .heldRun)) ≡ false) where
+  abbrev refusedSeven : Effect
+  refusedSeven = record { step = steppedOn side (k .port) (refusedBy 7 (seen side (k .port))); after = memoryOf side k; buffer = out }
+
+  waiting : isWaiting (k .port .wait) ≡ true
+  waiting = go side (k .port .wait) others
+    where
+      go : (s : Side) (w : Wait) → isOthers s w ≡ true → isWaiting w ≡ true
+      go s Nothing e = e
+      go s (Wait·Answer named r) e = refl
+
+  seven : (d : Decision) →
+      decidedOn side (k .port) (memoryOf side k) out
+      (unless (ownersRefusal (k .port) (length (memoryOf side k .run)) (length (memoryOf side k .heldRun))) (seen side (k .port)) d) ≡
+      refusedSeven
+  unfolding ownersRefusal unless stepOf bufferOf
+  seven d = rw (long, waiting)
+
+  seven-leaves : (c : Call) → concerns c (k .port .wait) ≡ side → effectOf c (k .port) (memoryOf side k) out ≡ refusedSeven → ChangesNothing c out k
+  seven-leaves c at e = (
+    ap (λ (s : Side). keptOn s (effectOf c (k .port) (memoryOf s k) out) k) at ∙ ap (λ (x : Effect). keptOn side x k) e ∙
+        kept-same side k refusedSeven (put-seen side (k .port)) refl,
+    ap (λ (s : Side). effectOf c (k .port) (memoryOf s k) out .step .refusal) at ∙ ap (λ (x : Effect). x .step .refusal) e,
+  )
+
+  owners-seven : (c : Call) → isOthersCall side c (k .port .wait) ≡ false → isOwners c ≡ true → ChangesNothing c out k
+  owners-seven (message s bytes) e o = absurd (false≢true o)
+  owners-seven (next s) e o = seven-leaves (next s) (own-side s side e) (ap (λ (x : Side). effectOf (next x) (k .port) (memoryOf side k) out) (own-side s side e) ∙ seven _)
+  owners-seven (startOver s) e o = seven-leaves (startOver s) (own-side s side e) (ap (λ (x : Side). effectOf (startOver x) (k .port) (memoryOf side k) out) (own-side s side e) ∙ seven _)
+  owners-seven (drop s) e o = seven-leaves (drop s) (own-side s side e) (ap (λ (x : Side). effectOf (drop x) (k .port) (memoryOf side k) out) (own-side s side e) ∙ seven _)
+  owners-seven (enter s svid position) e o = seven-leaves (enter s svid position) (own-side s side e) (ap (λ (x : Side). effectOf (enter x svid position) (k .port) (memoryOf side k) out) (own-side s side e) ∙ seven _)
+  owners-seven (exit s svid position) e o = seven-leaves (exit s svid position) (own-side s side e) (ap (λ (x : Side). effectOf (exit x svid position) (k .port) (memoryOf side k) out) (own-side s side e) ∙ seven _)
+  owners-seven (timer first last) e o = absurd (false≢true o)
+  owners-seven protocolError e o = absurd (false≢true o)
+
+pub blocked-changes-nothing : (side : Side) (c : Call) (out : List ℕ) (k : Kept) → isOthersCall side c (k .port .wait) ≡ false → isBlocked side c k ≡ true →
+    ChangesNothing c out k
+blocked-changes-nothing side c out k e b =
+    let f = all (isOwners c) (isOthers side (k .port .wait)) (shortRuns (length (memoryOf side k .run)) (length (memoryOf side k .heldRun))) b in
+    owners-seven side out k (f .1) (f .2) c e (f .0)
+  where
+    all : (x y t : Bool) → x && (y && not t) ≡ true → (x ≡ true) × (y ≡ true) × (t ≡ false)
+    all true true false e = (refl, refl, refl)
+    all true true true e = absurd (false≢true e)
+    all true false t e = absurd (false≢true e)
+    all false y t e = absurd (false≢true e)

@@ -25,7 +25,7 @@ use Rattle.port.specs.declared.Side.the-variants.{Partner, Cable}
 use Rattle.port.specs.declared.Wait.{Wait}
 use Rattle.port.specs.declared.Wait.the-variants.{Nothing}
 use Rattle.port.specs.declared.Wait.the-variants.{Answer as Wait·Answer}
-use Rattle.port_laws.specs.Effects.{Call, message, next, startOver, drop, enter, exit, timer, protocolError, oneSided, concerns, isOwners, Effect, decidedOn, effectOf, onSide, Kept, memoryOf, ofSide, keptOn, effectIn, keptBy, Answer, answerOf, answerOnSide}
+use Rattle.port_laws.specs.Effects.{Call, message, next, startOver, drop, enter, exit, timer, protocolError, oneSided, concerns, isOwners, Effect, decidedOn, effectOf, onSide, effectSeen, Kept, memoryOf, ofSide, keptOn, effectIn, keptBy, Answer, answerOf, answerOnSide}
 use Rattle.port_laws.specs.Leaving.{isOthersCall, isBlocked, isLeftOut, laptopBy}
 use Rattle.port_laws.proofs.Seeing.{message-idle, effect-seen, refusedNine, timer-nine, error-nine}
 use Rattle.port_laws.proofs.Sides.{other-unchanged, seen-put, seen-put-idle, put-seen, idle-seen, nothing-seen, same-side, Waits, own-waits, other-waits, none-waits, waits}
@@ -76,7 +76,7 @@ waiting-other side w e = go (waits side w)
     go (none-waits f) = absurd (false≢true (sym (ap (isOthers side) f) ∙ e))
 
 -- an event of the other side concerns the other side
-concerns-other : (side : Side) (c : Call) (w : Wait) → isOthersCall side c w ≡ true → sameSide (concerns c w) side ≡ false
+pub concerns-other : (side : Side) (c : Call) (w : Wait) → isOthersCall side c w ≡ true → sameSide (concerns c w) side ≡ false
 concerns-other side (message s bytes) w e = not-same (sameSide s side) e
 concerns-other side (next s) w e = not-same (sameSide s side) e
 concerns-other side (startOver s) w e = not-same (sameSide s side) e
@@ -114,28 +114,37 @@ module _ (side : Side) (c : Call) (out : List ℕ) (k : Kept) where
   effect-is at free =
       ap (λ (s : Side). effectOf c (k .port) (memoryOf s k) out) at ∙ effect-seen side (k .port) m out c at free
 
-  at-side : concerns c (k .port .wait) ≡ side → isBlocked side c k ≡ false →
-      (isOthers side (k .port .wait) ≡ true → one .step .laptop .wait ≡ Laptop·Nothing) → AsLaptop
-  at-side at free idle = (
-    ap (ofSide side) kept ∙ shared-laptop (seen-after (isOthers side (k .port .wait)) refl) (memory-own side _ k),
-    ap answerOf (effect-is at free),
-  )
-    where
-      kept : keptBy c out k ≡ keptOn side (onSide side (k .port) one) k
-      kept = ap (λ (s : Side). keptOn s (effectIn c out k) k) at ∙ ap (λ (e : Effect). keptOn side e k) (effect-is at free)
+  module _ (at : concerns c (k .port .wait) ≡ side) (free : isBlocked side c k ≡ false)
+      (idle : isOthers side (k .port .wait) ≡ true → one .step .laptop .wait ≡ Laptop·Nothing) where
+    seen-after : seen side (putBack side (one .step .laptop) (k .port)) ≡ one .step .laptop
+    seen-after = go (isOthers side (k .port .wait)) refl
+      where
+        go : (t : Bool) → isOthers side (k .port .wait) ≡ t → seen side (putBack side (one .step .laptop) (k .port)) ≡ one .step .laptop
+        go true e = seen-put-idle side (one .step .laptop) (k .port) e (idle e)
+        go false e = seen-put side (one .step .laptop) (k .port) e
 
-      seen-after : (t : Bool) → isOthers side (k .port .wait) ≡ t → seen side (keptOn side (onSide side (k .port) one) k .port) ≡ one .step .laptop
-      seen-after true e =
-          ap (seen side) (port-on side (onSide side (k .port) one) k) ∙ seen-put-idle side (one .step .laptop) (k .port) e (idle e)
-      seen-after false e =
-          ap (seen side) (port-on side (onSide side (k .port) one) k) ∙ seen-put side (one .step .laptop) (k .port) e
+    seen-effect : effectSeen side (effectIn c out k) ≡ one
+    seen-effect =
+        ap (effectSeen side) (effect-is at free) ∙
+        ap (λ (x : Laptop). record {
+          step = record { refusal = one .step .refusal; length = one .step .length; told = one .step .told; laptop = x };
+          after = one .after;
+          buffer = one .buffer;
+        }) seen-after
 
-      shared-laptop : seen side (keptOn side (onSide side (k .port) one) k .port) ≡ one .step .laptop →
-          memoryOf side (keptOn side (onSide side (k .port) one) k) ≡ one .after →
-          ofSide side (keptOn side (onSide side (k .port) one) k) ≡ laptopBy (oneSided c) out (ofSide side k)
-      shared-laptop e f =
-          ap (λ (x : Laptop). record { laptop = x; memory = memoryOf side (keptOn side (onSide side (k .port) one) k) }) e ∙
-          ap (λ (x : Memory). record { laptop = one .step .laptop; memory = x }) f
+    at-side : AsLaptop
+    at-side = (
+      ap (ofSide side) kept ∙ ap (λ (x : Port). record { laptop = seen side x; memory = memoryOf side (keptOn side put k) }) (port-on side put k) ∙
+          ap (λ (x : Laptop). record { laptop = x; memory = memoryOf side (keptOn side put k) }) seen-after ∙
+          ap (λ (x : Memory). record { laptop = one .step .laptop; memory = x }) (memory-own side put k),
+      ap answerOf (effect-is at free),
+    )
+      where
+        put : Effect
+        put = onSide side (k .port) one
+
+        kept : keptBy c out k ≡ keptOn side put k
+        kept = ap (λ (s : Side). keptOn s (effectIn c out k) k) at ∙ ap (λ (e : Effect). keptOn side e k) (effect-is at free)
 
 -- an owner's call with a short run leaves the laptop as it was
 short-leaves : (c : Call) (l : Laptop) (m : Memory) (out : List ℕ) → isOwners c ≡ true → shortRuns (length (m .run)) (length (m .heldRun)) ≡ true →
@@ -203,33 +212,46 @@ parts false b e = (refl, e)
 pub kept-in : (side : Side) (c : Call) (k : Kept) → isLeftOut side c k ≡ false → (isOthersCall side c (k .port .wait) ≡ false) × (isBlocked side c k ≡ false)
 kept-in side c k e = parts (isOthersCall side c (k .port .wait)) (isBlocked side c k) e
 
-owned : (side : Side) (c : Call) (out : List ℕ) (k : Kept) → isOwners c ≡ true → concerns c (k .port .wait) ≡ side → isBlocked side c k ≡ false →
-    AsLaptop side c out k
-owned side c out k o at free = at-side side c out k at free (owners-idle side c out k o free)
+-- where the other waits, a call of the side that is not left out leaves it awaiting nothing
+own-idle : (side : Side) (c : Call) (out : List ℕ) (k : Kept) → isLeftOut side c k ≡ false → concerns c (k .port .wait) ≡ side →
+    isOthers side (k .port .wait) ≡ true → Laptop·effectOf (oneSided c) (seen side (k .port)) (memoryOf side k) out .step .laptop .wait ≡ Laptop·Nothing
+own-idle side (message s bytes) out k e at o = message-idle (seen side (k .port)) (memoryOf side k) (idle-seen side (k .port) o) (readOutcome bytes)
+own-idle side (next s) out k e at o = owners-idle side (next s) out k refl (kept-in side (next s) k e .1) o
+own-idle side (startOver s) out k e at o = owners-idle side (startOver s) out k refl (kept-in side (startOver s) k e .1) o
+own-idle side (drop s) out k e at o = owners-idle side (drop s) out k refl (kept-in side (drop s) k e .1) o
+own-idle side (enter s svid position) out k e at o = owners-idle side (enter s svid position) out k refl (kept-in side (enter s svid position) k e .1) o
+own-idle side (exit s svid position) out k e at o = owners-idle side (exit s svid position) out k refl (kept-in side (exit s svid position) k e .1) o
+own-idle side (timer first last) out k e at o = absurd (false≢true (sym (kept-in side (timer first last) k e .0) ∙ o))
+own-idle side protocolError out k e at o = absurd (false≢true (sym (kept-in side protocolError k e .0) ∙ o))
 
 -- ONE CALL. The side's own, unless it is refused 7 because the other waits, is 01's on what the side sees: state, memory, and answer
 pub own-as-laptop : (side : Side) (c : Call) (out : List ℕ) (k : Kept) → isLeftOut side c k ≡ false → AsLaptop side c out k
-own-as-laptop side (message s bytes) out k e =
-    at-side side (message s bytes) out k (own-side s side (kept-in side (message s bytes) k e .0)) (kept-in side (message s bytes) k e .1)
-    (λ o. message-idle (seen side (k .port)) (memoryOf side k) (idle-seen side (k .port) o) (readOutcome bytes))
-own-as-laptop side (next s) out k e = owned side (next s) out k refl (own-side s side (kept-in side (next s) k e .0)) (kept-in side (next s) k e .1)
-own-as-laptop side (startOver s) out k e = owned side (startOver s) out k refl (own-side s side (kept-in side (startOver s) k e .0)) (kept-in side (startOver s) k e .1)
-own-as-laptop side (drop s) out k e = owned side (drop s) out k refl (own-side s side (kept-in side (drop s) k e .0)) (kept-in side (drop s) k e .1)
-own-as-laptop side (enter s svid position) out k e = owned side (enter s svid position) out k refl (own-side s side (kept-in side (enter s svid position) k e .0)) (kept-in side (enter s svid position) k e .1)
-own-as-laptop side (exit s svid position) out k e = owned side (exit s svid position) out k refl (own-side s side (kept-in side (exit s svid position) k e .0)) (kept-in side (exit s svid position) k e .1)
-own-as-laptop side (timer first last) out k e = go (waits side (k .port .wait))
+own-as-laptop side c out k e = go c e (waits side (k .port .wait)) (kept-in side c k e)
   where
-    go : Waits side (k .port .wait) → AsLaptop side (timer first last) out k
-    go (own-waits f g) = at-side side (timer first last) out k f refl (λ o. absurd (false≢true (sym g ∙ o)))
-    go (other-waits f g) = absurd (false≢true (sym (kept-in side (timer first last) k e .0) ∙ g))
-    go (none-waits f) =
-        idle-as-laptop side out k f (timer first last) (ap waitingSide f) (timer-nine (k .port) f (k .partner) out first last) (nine-timer side out k f first last)
-own-as-laptop side protocolError out k e = go (waits side (k .port .wait))
-  where
-    go : Waits side (k .port .wait) → AsLaptop side protocolError out k
-    go (own-waits f g) = at-side side protocolError out k f refl (λ o. absurd (false≢true (sym g ∙ o)))
-    go (other-waits f g) = absurd (false≢true (sym (kept-in side protocolError k e .0) ∙ g))
-    go (none-waits f) = idle-as-laptop side out k f protocolError (ap waitingSide f) (error-nine (k .port) f (k .partner) out) (nine-error side out k f)
+    own : (c : Call) → isLeftOut side c k ≡ false → concerns c (k .port .wait) ≡ side → isBlocked side c k ≡ false → AsLaptop side c out k
+    own c e at free = at-side side c out k at free (own-idle side c out k e at)
+
+    go : (c : Call) → isLeftOut side c k ≡ false → Waits side (k .port .wait) → (isOthersCall side c (k .port .wait) ≡ false) × (isBlocked side c k ≡ false) →
+        AsLaptop side c out k
+    go (message s bytes) e w f = own (message s bytes) e (own-side s side (f .0)) (f .1)
+    go (next s) e w f = own (next s) e (own-side s side (f .0)) (f .1)
+    go (startOver s) e w f = own (startOver s) e (own-side s side (f .0)) (f .1)
+    go (drop s) e w f = own (drop s) e (own-side s side (f .0)) (f .1)
+    go (enter s svid position) e w f = own (enter s svid position) e (own-side s side (f .0)) (f .1)
+    go (exit s svid position) e w f = own (exit s svid position) e (own-side s side (f .0)) (f .1)
+    go (timer first last) e (own-waits g h) f = own (timer first last) e g (f .1)
+    go (timer first last) e (other-waits g h) f = absurd (false≢true (sym (f .0) ∙ h))
+    go (timer first last) e (none-waits g) f =
+        idle-as-laptop side out k g (timer first last) (ap waitingSide g) (timer-nine (k .port) g (k .partner) out first last) (nine-timer side out k g first last)
+    go protocolError e (own-waits g h) f = own protocolError e g (f .1)
+    go protocolError e (other-waits g h) f = absurd (false≢true (sym (f .0) ∙ h))
+    go protocolError e (none-waits g) f =
+        idle-as-laptop side out k g protocolError (ap waitingSide g) (error-nine (k .port) g (k .partner) out) (nine-error side out k g)
+
+-- and so the side sees it
+pub own-seen : (side : Side) (c : Call) (out : List ℕ) (k : Kept) → isLeftOut side c k ≡ false → concerns c (k .port .wait) ≡ side →
+    effectSeen side (effectIn c out k) ≡ Laptop·effectOf (oneSided c) (seen side (k .port)) (memoryOf side k) out
+own-seen side c out k e at = seen-effect side c out k at (kept-in side c k e .1) (own-idle side c out k e at)
 
 -- ONE CALL. Refused 7 because the other side waits, it changes nothing at all
 abbrev pub ChangesNothing : Call → List ℕ → Kept → Type 0

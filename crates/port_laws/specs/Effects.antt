@@ -115,6 +115,15 @@ effectOf protocolError p m out = waitersEffect p m out (λ l. decideError l (l .
 abbrev pub onSide : Side → Port → Laptop·Effect → Effect
 onSide side p e = record { step = steppedOn side p (e .step); after = e .after; buffer = e .buffer }
 
+-- a call of the port, as a side sees it
+abbrev pub effectSeen : Side → Effect → Laptop·Effect
+effectSeen side e =
+    record {
+      step = record { refusal = e .step .refusal; length = e .step .length; told = e .step .told; laptop = seen side (e .step .port) };
+      after = e .after;
+      buffer = e .buffer;
+    }
+
 -- the port, and what is lent to each side
 pub record Kept : Type 0 where
   pub port : Port

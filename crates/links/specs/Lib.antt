@@ -1,0 +1,3 @@
+-- Document 02, R-4: demand 3 for each side.
+pub mod Joint
+pub mod Share

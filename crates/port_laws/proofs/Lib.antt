@@ -2,5 +2,6 @@
 pub mod Given
 pub mod Isolation
 pub mod OneCall
+pub mod Refusing
 pub mod Seeing
 pub mod Sides

@@ -3,5 +3,6 @@ pub mod Given
 pub mod Isolation
 pub mod OneCall
 pub mod Refusing
+pub mod Reserved
 pub mod Seeing
 pub mod Sides

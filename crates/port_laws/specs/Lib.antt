@@ -1,5 +1,6 @@
--- The port as a whole: every call, a side's share of a history, when each number is given, and what a refusal leaves.
+-- The port as a whole: every call, a side's share of a history, when each number is given, what a refusal leaves, and bit 5.
 pub mod Effects
 pub mod Given
 pub mod Leaving
 pub mod Refusing
+pub mod Reserved

@@ -1,6 +1,7 @@
 -- What the two sides keep from each other, a file for each topic.
 pub mod Given
 pub mod Isolation
+pub mod Keeping
 pub mod OneCall
 pub mod Refusing
 pub mod Reserved

@@ -1,8 +1,10 @@
-//! A call of the laptop end other than a message: the owner's calls, the timers and the protocol
-//! error, with their form as bytes (01, "Catalogue bytes and the watcher program").
+//! A call of the laptop end other than a message: the owner's calls, each for its side, the timers and
+//! the protocol error, with their form as bytes (01, "Catalogue bytes and the watcher program", and
+//! 02, R-4).
 
 use crate::laptop::{Answer, Laptop, Runs};
 use crate::messages;
+use crate::side::Side;
 use crate::stream::{take_bytes, Stop};
 use std::io::{self, Read, Write};
 
@@ -18,36 +20,52 @@ pub const EXIT: u8 = 0x48;
 
 #[derive(Clone, Copy, Debug, PartialEq, Eq)]
 pub enum Call {
-    Next,
-    StartOver,
-    Drop,
+    Next(Side),
+    StartOver(Side),
+    Drop(Side),
     ResponseTimer,
     EntryTimer,
     ExitTimer,
     ProtocolError,
-    Enter { svid: u16, position: u8 },
-    Exit { svid: u16, position: u8 },
+    Enter { side: Side, svid: u16, position: u8 },
+    Exit { side: Side, svid: u16, position: u8 },
 }
 
 impl Call {
-    /// The call that this byte opens.
+    /// The call that this byte opens: an owner's call has a cable twin, and no other.
     pub fn take(kind: u8, input: &mut impl Read) -> Result<Self, Stop> {
+        let (side, of_partner) = Side::of_kind(kind);
+        Ok(match of_partner {
+            NEXT => Call::Next(side),
+            START_OVER => Call::StartOver(side),
+            DROP => Call::Drop(side),
+            ENTER => {
+                let (svid, position) = take_mode(input)?;
+                Call::Enter {
+                    side,
+                    svid,
+                    position,
+                }
+            }
+            EXIT => {
+                let (svid, position) = take_mode(input)?;
+                Call::Exit {
+                    side,
+                    svid,
+                    position,
+                }
+            }
+            _ => Self::without_side(kind)?,
+        })
+    }
+
+    /// The call of this kind that no side's owner makes.
+    fn without_side(kind: u8) -> Result<Self, Stop> {
         Ok(match kind {
-            NEXT => Call::Next,
-            START_OVER => Call::StartOver,
-            DROP => Call::Drop,
             RESPONSE_TIMER => Call::ResponseTimer,
             ENTRY_TIMER => Call::EntryTimer,
             EXIT_TIMER => Call::ExitTimer,
             PROTOCOL_ERROR => Call::ProtocolError,
-            ENTER => {
-                let (svid, position) = take_mode(input)?;
-                Call::Enter { svid, position }
-            }
-            EXIT => {
-                let (svid, position) = take_mode(input)?;
-                Call::Exit { svid, position }
-            }
             _ => return Err(Stop::UnknownKind),
         })
     }
@@ -61,24 +79,43 @@ impl Call {
         }
     }
 
+    /// The side of an owner's call. A timer or a protocol error says none.
+    pub fn side(&self) -> Option<Side> {
+        match *self {
+            Call::Next(side) | Call::StartOver(side) | Call::Drop(side) => Some(side),
+            Call::Enter { side, .. } | Call::Exit { side, .. } => Some(side),
+            _ => None,
+        }
+    }
+
+    /// The same call for the other side, if it says one.
+    pub fn for_other_side(mut self) -> Self {
+        match &mut self {
+            Call::Next(side) | Call::StartOver(side) | Call::Drop(side) => *side = side.other(),
+            Call::Enter { side, .. } | Call::Exit { side, .. } => *side = side.other(),
+            _ => {}
+        }
+        self
+    }
+
     pub fn kind(&self) -> u8 {
         match self {
-            Call::Next => NEXT,
-            Call::StartOver => START_OVER,
-            Call::Drop => DROP,
+            Call::Next(side) => side.twin(NEXT),
+            Call::StartOver(side) => side.twin(START_OVER),
+            Call::Drop(side) => side.twin(DROP),
             Call::ResponseTimer => RESPONSE_TIMER,
             Call::EntryTimer => ENTRY_TIMER,
             Call::ExitTimer => EXIT_TIMER,
             Call::ProtocolError => PROTOCOL_ERROR,
-            Call::Enter { .. } => ENTER,
-            Call::Exit { .. } => EXIT,
+            Call::Enter { side, .. } => side.twin(ENTER),
+            Call::Exit { side, .. } => side.twin(EXIT),
         }
     }
 
     /// Puts what follows the kind.
     pub fn put_body(&self, output: &mut impl Write) -> io::Result<()> {
         match self {
-            Call::Enter { svid, position } | Call::Exit { svid, position } => {
+            Call::Enter { svid, position, .. } | Call::Exit { svid, position, .. } => {
                 output.write_all(&svid.to_le_bytes())?;
                 output.write_all(&[*position])
             }
@@ -88,28 +125,34 @@ impl Call {
 
     /// Whether the call is lent an output buffer.
     pub fn may_send(&self) -> bool {
-        matches!(
-            self,
-            Call::Next | Call::StartOver | Call::Enter { .. } | Call::Exit { .. }
-        )
+        self.is_owners() && !matches!(self, Call::Drop(_))
     }
 
-    /// Whether the call is the owner's, and so lent both runs.
+    /// Whether the call is the owner's, and so lent both runs of its side.
     pub fn is_owners(&self) -> bool {
-        self.may_send() || *self == Call::Drop
+        self.side().is_some()
     }
 
+    /// An owner's call is lent the runs of its own side.
     pub fn make(&self, laptop: &mut Laptop, runs: &mut Runs, out: &mut [u8]) -> Answer {
         match *self {
-            Call::Next => laptop.next(runs, out),
-            Call::StartOver => laptop.start_over(runs, out),
-            Call::Drop => laptop.drop(runs),
+            Call::Next(side) => laptop.next(side, runs, out),
+            Call::StartOver(side) => laptop.start_over(side, runs, out),
+            Call::Drop(side) => laptop.drop(side, runs),
             Call::ResponseTimer => laptop.response_timer(),
             Call::EntryTimer => laptop.entry_timer(),
             Call::ExitTimer => laptop.exit_timer(),
             Call::ProtocolError => laptop.protocol_error(),
-            Call::Enter { svid, position } => laptop.enter(svid, position, runs, out),
-            Call::Exit { svid, position } => laptop.exit(svid, position, runs, out),
+            Call::Enter {
+                side,
+                svid,
+                position,
+            } => laptop.enter(side, svid, position, runs, out),
+            Call::Exit {
+                side,
+                svid,
+                position,
+            } => laptop.exit(side, svid, position, runs, out),
         }
     }
 }

@@ -3,6 +3,7 @@
 use crate::digest;
 use crate::laptop::{Candidate, Laptop, Reason, Told};
 use crate::messages::Request;
+use crate::side::Side;
 
 /// What a field holds where there is nothing to tell.
 pub const NOTHING: &str = "-";
@@ -36,8 +37,8 @@ pub fn request(request: Request) -> String {
     format!("{svid:04X}:{command}:{position}")
 }
 
-pub fn held_count(laptop: &Laptop) -> String {
-    or_nothing(laptop.held().map(|held| held.svids.len().to_string()))
+pub fn held_count(laptop: &Laptop, side: Side) -> String {
+    or_nothing(laptop.held(side).map(|held| held.svids.len().to_string()))
 }
 
 pub fn digest_of(bytes: &[u8]) -> String {
@@ -46,13 +47,15 @@ pub fn digest_of(bytes: &[u8]) -> String {
 
 pub fn told(told: Told) -> String {
     match told {
-        Told::Attention(message) => {
+        Told::Attention { message, .. } => {
             let count = message.objects.as_slice().len();
             let object = message.objects.words()[0];
             let (svid, position) = (message.svid, message.position);
             format!("attention:{svid:04X}:{position}:{count}:{object:08X}")
         }
-        Told::Unmarked { request, reason } => {
+        Told::Unmarked {
+            request, reason, ..
+        } => {
             let word = match reason {
                 Reason::Nak => "nak",
                 Reason::Busy => "busy",

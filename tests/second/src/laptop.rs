@@ -1,27 +1,30 @@
-//! The laptop end (01, "The laptop end"): it asks, gathers a candidate and holds a catalogue.
+//! The laptop end (01, "The laptop end", and 02, R-4): of each side it asks, gathers a candidate and
+//! holds a catalogue. One wait is shared by the two.
 
 mod answers;
 mod owner;
+mod side_state;
 mod timers;
 
 use crate::catalogue::{Catalogue, RUN_WORDS};
-use crate::messages::{Message, Request, LAST_MODE_POSITION, LAST_POSITION};
+use crate::messages::{Message, Request};
 use crate::refusals::{NOT_HELD, SHORT_RUN};
-use std::collections::BTreeMap;
+use crate::side::{Side, Sides};
+use side_state::SideState;
 
 pub const MOST_PAGES: usize = 200;
-/// The set of all six positions.
-const ALL_POSITIONS: u8 = (1 << LAST_MODE_POSITION) - 1;
 
-#[derive(Clone, Debug, PartialEq, Eq)]
+#[derive(Clone, Debug, Default, PartialEq, Eq)]
 pub struct Laptop {
-    /// The request whose answer is awaited.
-    awaited: Option<Request>,
-    candidate: Candidate,
-    held: Option<Catalogue>,
-    page_count: usize,
-    /// A set bit for each entered position, by SVID.
-    entered: BTreeMap<u16, u8>,
+    awaited: Option<Awaited>,
+    states: Sides<SideState>,
+}
+
+/// The request whose answer is awaited, and the side from which it is.
+#[derive(Clone, Copy, Debug, PartialEq, Eq)]
+pub struct Awaited {
+    pub side: Side,
+    pub request: Request,
 }
 
 #[derive(Clone, Debug, Default, PartialEq, Eq)]
@@ -33,7 +36,7 @@ pub enum Candidate {
     ListDone(Catalogue),
 }
 
-/// The runs of mode words, lent by the caller.
+/// The runs of mode words of one side, lent by the caller.
 #[derive(Debug)]
 pub struct Runs<'run> {
     pub held: &'run mut [u32],
@@ -49,11 +52,16 @@ pub struct Accepted {
     pub told: Option<Told>,
 }
 
+/// Of a side; after a timer or a protocol error, of the one that waited.
 #[derive(Clone, Copy, Debug, PartialEq, Eq)]
 pub enum Told {
-    Attention(Message),
+    Attention {
+        side: Side,
+        message: Message,
+    },
     /// An enter or exit came to nothing.
     Unmarked {
+        side: Side,
         request: Request,
         reason: Reason,
     },
@@ -87,58 +95,51 @@ impl Accepted {
 }
 
 impl Laptop {
-    /// A laptop that awaits, gathers and holds nothing.
+    /// A laptop that awaits nothing, and of each side gathers and holds nothing.
     pub fn fresh() -> Self {
-        Laptop {
-            awaited: None,
-            candidate: Candidate::None,
-            held: None,
-            page_count: 0,
-            entered: BTreeMap::new(),
-        }
+        Laptop::default()
     }
 
-    pub fn awaited(&self) -> Option<Request> {
+    pub fn awaited(&self) -> Option<Awaited> {
         self.awaited
     }
 
-    pub fn candidate(&self) -> &Candidate {
-        &self.candidate
+    /// The request whose answer is awaited from this side.
+    pub fn awaited_from(&self, side: Side) -> Option<Request> {
+        let awaited = self.awaited.filter(|awaited| awaited.side == side);
+        awaited.map(|awaited| awaited.request)
     }
 
-    pub fn held(&self) -> Option<&Catalogue> {
-        self.held.as_ref()
+    pub fn candidate(&self, side: Side) -> &Candidate {
+        &self.states[side].candidate
     }
 
-    pub fn page_count(&self) -> usize {
-        self.page_count
+    pub fn held(&self, side: Side) -> Option<&Catalogue> {
+        self.states[side].held.as_ref()
+    }
+
+    pub fn page_count(&self, side: Side) -> usize {
+        self.states[side].page_count
     }
 
     /// The report: how many modes of the SVID are entered.
-    pub fn entered_count(&self, svid: u16) -> u32 {
-        self.entered_set(svid).count_ones()
+    pub fn entered_count(&self, side: Side, svid: u16) -> u32 {
+        self.states[side].entered_set(svid).count_ones()
     }
 
-    /// Writes the held catalogue's bytes at the start of `out` and gives their number, or refuses
-    /// with 11 for a short run, then 12, then 11 for a short buffer.
-    pub fn write_catalogue(&self, held_run: &[u32], out: &mut [u8]) -> Result<usize, u8> {
+    /// Writes the side's held catalogue's bytes at the start of `out` and gives their number, or
+    /// refuses with 11 for a short run, then 12, then 11 for a short buffer.
+    pub fn write_catalogue(
+        &self,
+        side: Side,
+        held_run: &[u32],
+        out: &mut [u8],
+    ) -> Result<usize, u8> {
         check_run(held_run)?;
-        match &self.held {
+        match self.held(side) {
             Some(held) => held.write(held_run, out),
             None => Err(NOT_HELD),
         }
-    }
-
-    fn entered_set(&self, svid: u16) -> u8 {
-        self.entered.get(&svid).copied().unwrap_or(0)
-    }
-}
-
-/// The set of positions that an enter or exit names; position 7 is all.
-fn named_positions(position: u8) -> u8 {
-    match position {
-        LAST_POSITION => ALL_POSITIONS,
-        _ => 1 << (position - 1),
     }
 }
 

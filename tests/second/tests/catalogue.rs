@@ -2,6 +2,7 @@
 
 use crate::bench::{Bench, UNWRITTEN_WORD};
 use second::catalogue::{Catalogue, MOST_CATALOGUE_BYTES, RUN_WORDS};
+use second::side::Side;
 
 /// Case L's catalogue.
 const CASE_L: [u8; 22] = [
@@ -18,7 +19,9 @@ fn case_l() -> Bench {
 
 fn written(bench: &Bench, room: usize) -> Result<Vec<u8>, u8> {
     let mut out = vec![0x5A; room];
-    let result = bench.laptop.write_catalogue(&bench.held, &mut out);
+    let result = bench
+        .laptop
+        .write_catalogue(Side::Partner, &bench.held, &mut out);
     let length = result.unwrap_or(0);
     assert!(out[length..].iter().all(|&byte| byte == 0x5A));
     result.map(|length| out[..length].to_vec())

@@ -9,8 +9,9 @@ use second::link_events::checks::{
 use second::link_events::generator::generate;
 use second::link_events::tally::{of_one_stream, Tally};
 use second::link_events::{Data, Event, Outcome, Start, System};
+use second::side::Side;
 
-const NEXT: Event = Event::Call(Call::Next);
+const NEXT: Event = Event::Call(Call::Next(Side::Partner));
 const EXCHANGE: [Event; 5] = [
     NEXT,
     Event::RequestReaches,
@@ -86,8 +87,11 @@ fn the_200th_page_may_end_the_list_over_the_link() {
         let mut ended = 0;
         for event in &events {
             system.take(event);
-            let is_done = matches!(system.laptop().candidate(), Candidate::ListDone(_));
-            ended += usize::from(is_done && system.laptop().page_count() == 200);
+            let is_done = matches!(
+                system.laptop().candidate(Side::Partner),
+                Candidate::ListDone(_)
+            );
+            ended += usize::from(is_done && system.laptop().page_count(Side::Partner) == 200);
         }
         assert!(ended > 0);
     }
@@ -181,7 +185,7 @@ fn a_page_that_comes_again_and_busy_lower_nothing() {
     assert_eq!(demand.still_needed(), 14);
     let (_, demand) = after(begin(13, true), 1, &busy);
     assert_eq!(demand.still_needed(), 15);
-    for call in [Call::Drop, Call::StartOver] {
+    for call in [Call::Drop(Side::Partner), Call::StartOver(Side::Partner)] {
         let (_, demand) = after(begin(13, true), 5, &[Event::Call(call)]);
         assert_eq!(demand.still_needed(), 16);
     }
@@ -201,9 +205,9 @@ fn a_laptop_that_asks_again_for_what_has_come_gets_nowhere() {
 fn a_gathering_that_begins_anew_without_a_reason_is_noticed() {
     let (system, mut demand) = after(begin(13, true), 1, &[]);
     let mut asking = system.clone();
-    asking.take(&Event::Call(Call::StartOver));
+    asking.take(&Event::Call(Call::StartOver(Side::Partner)));
     let mut now = Observed::of(&system);
-    now.awaited = asking.laptop().awaited();
+    now.awaited = asking.laptop().awaited_from(Side::Partner);
     assert_eq!(demand.check(&NEXT, ACCEPTED, now), Err(ENDED_UNFINISHED));
 }
 
@@ -220,7 +224,7 @@ fn a_list_that_has_come_whole_is_the_dock_s() {
     let open = after(begin(13, true), 2, &[])
         .0
         .laptop()
-        .candidate()
+        .candidate(Side::Partner)
         .clone();
     let acknowledged = changed(whole(), event, |now| now.candidate = open);
     assert_eq!(acknowledged, Err(WRONG_LIST));
@@ -231,7 +235,7 @@ fn lists_of_12_to_72_count_a_page_for_each_twelve() {
     for (count, pages) in [(11, 1), (12, 2), (13, 2), (24, 3), (72, 7)] {
         let exchanges = 1 + pages + usize::from(count);
         let (system, _) = after(begin(count, true), exchanges, &[]);
-        assert_eq!(system.laptop().page_count(), pages);
+        assert_eq!(system.laptop().page_count(Side::Partner), pages);
         assert_eq!(system.held_bytes(), Some(system.data().catalogue_bytes()));
     }
 }
@@ -264,7 +268,7 @@ fn a_gathering_ends_unfinished_only_for_a_reason() {
         changed(page, Event::AnswerArrives, ended),
         Err(ENDED_UNFINISHED)
     );
-    for call in [Call::Drop, Call::StartOver] {
+    for call in [Call::Drop(Side::Partner), Call::StartOver(Side::Partner)] {
         assert_eq!(changed(open(), Event::Call(call), unchanged), Ok(()));
     }
     let late = [NEXT, Event::RequestReaches, Event::Give, Event::Timer];

@@ -4,6 +4,7 @@ use crate::bench::{bytes, page_ack, Bench, Seen, IDENTITY_ACK, ROOM, RUN_WORDS, 
 use second::laptop::Candidate::{ListDone, ListOpen};
 use second::laptop::{Answer, Candidate, Laptop, Reason, Runs, Told};
 use second::messages::{read, Request};
+use second::side::Side;
 
 const ASK_IDENTITY: u32 = 0xFF00_A001;
 const ASK_LIST: u32 = 0xFF00_A002;
@@ -18,22 +19,24 @@ fn sent(header: u32) -> Seen {
 }
 
 fn start_over(bench: &mut Bench) -> Seen {
-    bench.called(ROOM, |laptop, runs, out| laptop.start_over(runs, out))
+    bench.called(ROOM, |laptop, runs, out| {
+        laptop.start_over(Side::Partner, runs, out)
+    })
 }
 
 fn drop(bench: &mut Bench) -> Seen {
-    bench.called(ROOM, |laptop, runs, _| laptop.drop(runs))
+    bench.called(ROOM, |laptop, runs, _| laptop.drop(Side::Partner, runs))
 }
 
 fn enter(bench: &mut Bench, svid: u16, position: u8) -> Seen {
     bench.called(ROOM, |laptop, runs, out| {
-        laptop.enter(svid, position, runs, out)
+        laptop.enter(Side::Partner, svid, position, runs, out)
     })
 }
 
 fn exit(bench: &mut Bench, svid: u16, position: u8) -> Seen {
     bench.called(ROOM, |laptop, runs, out| {
-        laptop.exit(svid, position, runs, out)
+        laptop.exit(Side::Partner, svid, position, runs, out)
     })
 }
 
@@ -50,22 +53,22 @@ fn refused(bench: &Bench, refusal: u8, call: impl FnOnce(&mut Bench) -> Seen) {
 }
 
 fn gathered(bench: &Bench) -> usize {
-    match bench.laptop.candidate() {
+    match bench.laptop.candidate(Side::Partner) {
         ListOpen(catalogue) | ListDone(catalogue) => catalogue.svids.len(),
         Candidate::None => panic!("no candidate"),
     }
 }
 
 fn is_open(bench: &Bench) -> bool {
-    matches!(bench.laptop.candidate(), ListOpen(_))
+    matches!(bench.laptop.candidate(Side::Partner), ListOpen(_))
 }
 
 fn is_done(bench: &Bench) -> bool {
-    matches!(bench.laptop.candidate(), ListDone(_))
+    matches!(bench.laptop.candidate(Side::Partner), ListDone(_))
 }
 
 fn has_no_candidate(bench: &Bench) -> bool {
-    *bench.laptop.candidate() == Candidate::None
+    *bench.laptop.candidate(Side::Partner) == Candidate::None
 }
 
 /// Refused, with no wait and no candidate after it, and otherwise as before but for the count.
@@ -73,8 +76,11 @@ fn voided(bench: &mut Bench, refusal: u8, pages: usize, message: &[u32]) {
     let before = bench.clone();
     assert_eq!(bench.message(message), Err(refusal));
     assert!(has_no_candidate(bench) && bench.laptop.awaited().is_none());
-    assert_eq!(bench.laptop.page_count(), pages);
-    assert_eq!(bench.laptop.held(), before.laptop.held());
+    assert_eq!(bench.laptop.page_count(Side::Partner), pages);
+    assert_eq!(
+        bench.laptop.held(Side::Partner),
+        before.laptop.held(Side::Partner)
+    );
     assert_eq!(
         (&bench.held, &bench.candidate),
         (&before.held, &before.candidate)
@@ -104,7 +110,7 @@ fn waits() -> [(Bench, Request); 5] {
     enter(&mut benches[3], 1, 1).unwrap();
     exit(&mut benches[4], 1, 7).unwrap();
     benches.map(|bench| {
-        let request = bench.laptop.awaited().unwrap();
+        let request = bench.laptop.awaited_from(Side::Partner).unwrap();
         (bench, request)
     })
 }
@@ -122,11 +128,11 @@ fn case_l() {
     assert_eq!(bench.message(&IDENTITY_ACK), NOTHING);
     assert_eq!(bench.next(), sent(0xFF00_A002));
     assert_eq!(bench.message(&[0xFF00_A042, 0xFF01_0000]), NOTHING);
-    assert_eq!(bench.laptop.page_count(), 1);
+    assert_eq!(bench.laptop.page_count(Side::Partner), 1);
     assert_eq!(bench.next(), sent(0xFF01_A003));
-    assert!(bench.laptop.held().is_none());
+    assert!(bench.laptop.held(Side::Partner).is_none());
     assert_eq!(bench.message(&[0xFF01_A043, 0x0000_0405]), NOTHING);
-    let held = bench.laptop.held().unwrap();
+    let held = bench.laptop.held(Side::Partner).unwrap();
     assert_eq!(held.identity, IDENTITY_ACK[1..]);
     assert_eq!(
         (&held.svids[..], &held.mode_counts[..]),
@@ -165,7 +171,10 @@ fn case_11_an_unconfirmed_page_is_counted_and_adds_nothing() {
     assert_eq!(bench.page(&FULL), NOTHING);
     assert_eq!((gathered(&bench), is_open(&bench)), (12, true));
     assert_eq!(bench.page(&[13, 0]), NOTHING);
-    assert_eq!((bench.laptop.page_count(), gathered(&bench)), (3, 13));
+    assert_eq!(
+        (bench.laptop.page_count(Side::Partner), gathered(&bench)),
+        (3, 13)
+    );
     assert!(is_done(&bench));
 }
 
@@ -176,7 +185,7 @@ fn case_12_a_nak_after_a_page_voids_and_the_old_catalogue_stays_held() {
     bench.page(&FULL).unwrap();
     bench.next().unwrap();
     voided(&mut bench, 8, 1, &[NAK_LIST]);
-    assert_eq!(bench.laptop.held().unwrap().svids, [1, 2, 3]);
+    assert_eq!(bench.laptop.held(Side::Partner).unwrap().svids, [1, 2, 3]);
 }
 
 #[test]
@@ -196,8 +205,8 @@ fn a_nak_with_nothing_gathered_publishes_an_empty_list() {
     bench.reopen();
     assert_eq!(bench.exchange(ASK_LIST, &[BUSY_LIST]), NOTHING);
     assert_eq!(bench.exchange(ASK_LIST, &[NAK_LIST]), NOTHING);
-    assert!(bench.laptop.held().unwrap().svids.is_empty());
-    assert_eq!(bench.laptop.page_count(), 0);
+    assert!(bench.laptop.held(Side::Partner).unwrap().svids.is_empty());
+    assert_eq!(bench.laptop.page_count(Side::Partner), 0);
     assert_eq!((&bench.held, &bench.candidate), (&runs.0, &runs.1));
     assert_eq!(bench.next(), sent(ASK_IDENTITY));
 }
@@ -224,12 +233,15 @@ fn modes_are_asked_in_order_and_only_what_came_is_written() {
         .exchange(0x0001_A003, &[0x0001_A043, 1, 2, 3, 4, 5, 6])
         .unwrap();
     assert_eq!(bench.held, vec![UNWRITTEN_WORD; RUN_WORDS]);
-    assert!(is_done(&bench) && bench.laptop.held().is_none());
+    assert!(is_done(&bench) && bench.laptop.held(Side::Partner).is_none());
     bench.exchange(0x0002_A003, &[0x0002_A043, 7, 8]).unwrap();
     let mut run = vec![UNWRITTEN_WORD; RUN_WORDS];
     run[..8].copy_from_slice(&[1, 2, 3, 4, 5, 6, 7, 8]);
     assert_eq!((&bench.held, &bench.candidate), (&run, &run));
-    assert_eq!(bench.laptop.held().unwrap().mode_counts, [6, 2]);
+    assert_eq!(
+        bench.laptop.held(Side::Partner).unwrap().mode_counts,
+        [6, 2]
+    );
 }
 
 #[test]
@@ -257,11 +269,14 @@ fn the_200th_page_may_end_the_list_and_else_is_14() {
     let mut bench = Bench::open();
     for page in 1..=199 {
         assert_eq!(bench.page(&FULL), NOTHING);
-        assert_eq!((bench.laptop.page_count(), gathered(&bench)), (page, 12));
+        assert_eq!(
+            (bench.laptop.page_count(Side::Partner), gathered(&bench)),
+            (page, 12)
+        );
     }
     let mut ends = bench.clone();
     assert_eq!(ends.page(&[13, 0]), NOTHING);
-    assert!(is_done(&ends) && ends.laptop.page_count() == 200);
+    assert!(is_done(&ends) && ends.laptop.page_count(Side::Partner) == 200);
     bench.next().unwrap();
     let more: Vec<u16> = (13..=24).collect();
     voided(&mut bench.clone(), 14, 200, &page_ack(&FULL));
@@ -269,7 +284,7 @@ fn the_200th_page_may_end_the_list_and_else_is_14() {
     voided(&mut bench.clone(), 8, 200, &page_ack(&[1, 0]));
     voided(&mut bench.clone(), 8, 199, &[NAK_LIST]);
     assert_eq!(bench.message(&[BUSY_LIST]), NOTHING);
-    assert_eq!(bench.laptop.page_count(), 199);
+    assert_eq!(bench.laptop.page_count(Side::Partner), 199);
     voided_then_asked_again(bench);
 }
 
@@ -277,13 +292,16 @@ fn voided_then_asked_again(mut bench: Bench) {
     bench.next().unwrap();
     voided(&mut bench, 14, 200, &page_ack(&FULL));
     assert_eq!(bench.next(), sent(ASK_IDENTITY));
-    assert_eq!(bench.laptop.page_count(), 0);
+    assert_eq!(bench.laptop.page_count(Side::Partner), 0);
 }
 
 #[test]
 fn a_list_of_72_is_gathered_and_73_are_refused_8() {
     let bench = Bench::listed(72);
-    assert_eq!((gathered(&bench), bench.laptop.page_count()), (72, 7));
+    assert_eq!(
+        (gathered(&bench), bench.laptop.page_count(Side::Partner)),
+        (72, 7)
+    );
     let mut bench = Bench::open();
     for first in (1..72).step_by(12) {
         let page: Vec<u16> = (first..first + 12).collect();
@@ -378,7 +396,9 @@ fn damaged_messages_are_refused_1_to_5_in_every_state() {
         for length in [0, 1, 3, 5, 27, 29, 32] {
             refused(&bench, 1, |bench| {
                 let bytes = vec![0xFF; length];
-                bench.called(0, |laptop, runs, _| laptop.message(&bytes, runs))
+                bench.called(0, |laptop, runs, _| {
+                    laptop.message(Side::Partner, &bytes, runs)
+                })
             });
         }
         refused(&bench, 2, |bench| bench.message(&[0xFF00_7FFF]));
@@ -393,7 +413,10 @@ fn attention_goes_to_policy_at_any_time_and_changes_nothing() {
     for bench in states {
         for objects in [&[0x0001_A206][..], &[0x0001_A206, 0x1234_5678]] {
             let mut after = bench.clone();
-            let told = Told::Attention(read(&bytes(objects)).unwrap());
+            let told = Told::Attention {
+                side: Side::Partner,
+                message: read(&bytes(objects)).unwrap(),
+            };
             assert_eq!(after.message(objects), Ok((None, Some(told))));
             assert_eq!(after, bench);
         }
@@ -418,7 +441,7 @@ fn start_over_drops_the_candidate_and_clears_the_page_count() {
     for mut bench in [Bench::fresh(), Bench::open(), Bench::listed(13)] {
         assert_eq!(start_over(&mut bench), sent(ASK_IDENTITY));
         assert!(has_no_candidate(&bench));
-        assert_eq!(bench.laptop.page_count(), 0);
+        assert_eq!(bench.laptop.page_count(Side::Partner), 0);
     }
 }
 
@@ -428,21 +451,33 @@ fn drop_leaves_no_candidate_and_the_rest_alone() {
         let mut after = bench.clone();
         assert_eq!(drop(&mut after), NOTHING);
         assert!(has_no_candidate(&after));
-        assert_eq!(after.laptop.page_count(), bench.laptop.page_count());
-        assert_eq!(after.laptop.held(), bench.laptop.held());
-        assert_eq!(after.laptop.entered_count(1), bench.laptop.entered_count(1));
+        assert_eq!(
+            after.laptop.page_count(Side::Partner),
+            bench.laptop.page_count(Side::Partner)
+        );
+        assert_eq!(
+            after.laptop.held(Side::Partner),
+            bench.laptop.held(Side::Partner)
+        );
+        assert_eq!(
+            after.laptop.entered_count(Side::Partner, 1),
+            bench.laptop.entered_count(Side::Partner, 1)
+        );
     }
 }
 
 #[test]
 fn the_held_catalogue_stays_while_another_is_gathered() {
     let mut bench = Bench::holding(3, &[1, 2]);
-    let (held, run) = (bench.laptop.held().cloned(), bench.held.clone());
+    let (held, run) = (
+        bench.laptop.held(Side::Partner).cloned(),
+        bench.held.clone(),
+    );
     bench.reopen();
     bench.page(&[9, 0]).unwrap();
-    assert_eq!(bench.laptop.held(), held.as_ref());
+    assert_eq!(bench.laptop.held(Side::Partner), held.as_ref());
     bench.exchange(0x0009_A003, &[0x0009_A043, 5]).unwrap();
-    assert_eq!(bench.laptop.held().unwrap().svids, [9]);
+    assert_eq!(bench.laptop.held(Side::Partner).unwrap().svids, [9]);
     assert_eq!((bench.held[0], &bench.held[1..]), (5, &run[1..]));
 }
 
@@ -502,17 +537,20 @@ fn every_mode_is_entered_and_reported_and_7_leaves_all_of_one_svid() {
             let header = u32::from(svid) << 16 | 0xA004 | u32::from(position) << 8;
             assert_eq!(enter(&mut bench, svid, position), sent(header));
             assert_eq!(bench.message(&[header | 0x40]), NOTHING);
-            assert_eq!(bench.laptop.entered_count(svid), u32::from(position));
+            assert_eq!(
+                bench.laptop.entered_count(Side::Partner, svid),
+                u32::from(position)
+            );
         }
     }
     exit(&mut bench, 1, 3).unwrap();
     assert_eq!(bench.message(&[0x0001_A345]), NOTHING);
-    assert_eq!(bench.laptop.entered_count(1), 5);
+    assert_eq!(bench.laptop.entered_count(Side::Partner, 1), 5);
     refused(&bench, 13, |bench| exit(bench, 1, 3));
     assert_eq!(exit(&mut bench, 1, 7), sent(0x0001_A705));
-    assert_eq!(bench.laptop.entered_count(1), 5);
+    assert_eq!(bench.laptop.entered_count(Side::Partner, 1), 5);
     assert_eq!(bench.message(&[0x0001_A745]), NOTHING);
-    let counts = [1, 2, 3].map(|svid| bench.laptop.entered_count(svid));
+    let counts = [1, 2, 3].map(|svid| bench.laptop.entered_count(Side::Partner, svid));
     assert_eq!(counts, [0, 6, 0]);
 }
 
@@ -525,7 +563,16 @@ fn enter_and_exit_that_come_to_nothing_are_told_and_change_no_mark() {
             4 => Laptop::entry_timer,
             _ => Laptop::exit_timer,
         };
-        let told = |reason| Ok((None, Some(Told::Unmarked { request, reason })));
+        let told = |reason| {
+            Ok((
+                None,
+                Some(Told::Unmarked {
+                    side: Side::Partner,
+                    request,
+                    reason,
+                }),
+            ))
+        };
         let [mut nak, mut busy, mut timed, mut failed] = [(); 4].map(|()| bench.clone());
         assert_eq!(nak.message(&[header | 0x80]), told(Reason::Nak));
         assert_eq!(busy.message(&[header | 0xC0]), told(Reason::Busy));
@@ -536,8 +583,14 @@ fn enter_and_exit_that_come_to_nothing_are_told_and_change_no_mark() {
         );
         for after in [nak, busy, timed, failed] {
             assert!(after.laptop.awaited().is_none());
-            assert_eq!(after.laptop.entered_count(1), bench.laptop.entered_count(1));
-            assert_eq!(after.laptop.held(), bench.laptop.held());
+            assert_eq!(
+                after.laptop.entered_count(Side::Partner, 1),
+                bench.laptop.entered_count(Side::Partner, 1)
+            );
+            assert_eq!(
+                after.laptop.held(Side::Partner),
+                bench.laptop.held(Side::Partner)
+            );
             refused(&after, 6, |bench| bench.message(&[header | 0x40]));
         }
     }
@@ -557,7 +610,10 @@ fn the_right_timer_ends_a_wait_and_others_are_refused_9() {
                 let mut after = bench.clone();
                 assert!(end(&mut after, timer).is_ok());
                 assert!(after.laptop.awaited().is_none());
-                assert_eq!(after.laptop.candidate(), bench.laptop.candidate());
+                assert_eq!(
+                    after.laptop.candidate(Side::Partner),
+                    bench.laptop.candidate(Side::Partner)
+                );
             } else {
                 refused(&bench, 9, |bench| end(bench, timer));
             }
@@ -573,13 +629,15 @@ fn the_right_timer_ends_a_wait_and_others_are_refused_9() {
 /// A message and every owner's call, with fitting arguments.
 fn lent_calls(laptop: &Laptop, runs: &mut Runs, out: &mut [u8]) -> [Answer; 7] {
     [
-        laptop.clone().message(&bytes(&IDENTITY_ACK), runs),
-        laptop.clone().message(&[0; 3], runs),
-        laptop.clone().next(runs, out),
-        laptop.clone().start_over(runs, out),
-        laptop.clone().drop(runs),
-        laptop.clone().enter(1, 1, runs, out),
-        laptop.clone().exit(1, 1, runs, out),
+        laptop
+            .clone()
+            .message(Side::Partner, &bytes(&IDENTITY_ACK), runs),
+        laptop.clone().message(Side::Partner, &[0; 3], runs),
+        laptop.clone().next(Side::Partner, runs, out),
+        laptop.clone().start_over(Side::Partner, runs, out),
+        laptop.clone().drop(Side::Partner, runs),
+        laptop.clone().enter(Side::Partner, 1, 1, runs, out),
+        laptop.clone().exit(Side::Partner, 1, 1, runs, out),
     ]
 }
 
@@ -603,10 +661,14 @@ fn a_short_buffer_is_refused_11_after_all_else() {
     for room in 0..4 {
         for bench in [Bench::fresh(), Bench::open(), Bench::listed(13)] {
             refused(&bench, 11, |bench| {
-                bench.called(room, |laptop, runs, out| laptop.next(runs, out))
+                bench.called(room, |laptop, runs, out| {
+                    laptop.next(Side::Partner, runs, out)
+                })
             });
             refused(&bench, 11, |bench| {
-                bench.called(room, |laptop, runs, out| laptop.start_over(runs, out))
+                bench.called(room, |laptop, runs, out| {
+                    laptop.start_over(Side::Partner, runs, out)
+                })
             });
         }
         let numbers = [
@@ -618,22 +680,24 @@ fn a_short_buffer_is_refused_11_after_all_else() {
         for (svid, position, enter, exit) in numbers {
             refused(&entered(), enter, |bench| {
                 bench.called(room, |laptop, runs, out| {
-                    laptop.enter(svid, position, runs, out)
+                    laptop.enter(Side::Partner, svid, position, runs, out)
                 })
             });
             refused(&entered(), exit, |bench| {
                 bench.called(room, |laptop, runs, out| {
-                    laptop.exit(svid, position, runs, out)
+                    laptop.exit(Side::Partner, svid, position, runs, out)
                 })
             });
         }
         for (bench, _) in waits() {
             refused(&bench, 7, |bench| {
-                bench.called(room, |laptop, runs, out| laptop.next(runs, out))
+                bench.called(room, |laptop, runs, out| {
+                    laptop.next(Side::Partner, runs, out)
+                })
             });
         }
     }
     let mut bench = Bench::fresh();
-    let seen = bench.called(4, |laptop, runs, out| laptop.next(runs, out));
+    let seen = bench.called(4, |laptop, runs, out| laptop.next(Side::Partner, runs, out));
     assert_eq!(seen, sent(ASK_IDENTITY));
 }

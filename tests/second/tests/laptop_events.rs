@@ -7,13 +7,15 @@ use second::laptop_events::generator::{expected, generate, stored_stream, STREAM
 use second::laptop_events::tally::Tally;
 use second::laptop_events::{put_streams, Event, Item, Run};
 use second::reached::Reached;
+use second::side::Side;
 use std::collections::BTreeSet;
 
 const SEEDS: [u64; 4] = [0, 1, 2, u64::MAX];
 const HEADING: &str = "stream event refusal sent output told awaited candidate pages held \
     candidate_run held_run catalogue report\n";
-const KNOWN: [u8; 14] = [
-    0x01, 0x40, 0x41, 0x42, 0x43, 0x44, 0x45, 0x46, 0x47, 0x48, 0x49, 0x4A, 0x4B, 0x4C,
+const KNOWN: [u8; 23] = [
+    0x01, 0x40, 0x41, 0x42, 0x43, 0x44, 0x45, 0x46, 0x47, 0x48, 0x49, 0x4A, 0x4B, 0x4C, 0x81, 0xC0,
+    0xC1, 0xC2, 0xC7, 0xC8, 0xC9, 0xCA, 0xCB,
 ];
 /// Both runs as they are at the start, and then with case L's mode.
 const CASE_L: &str = "\
@@ -379,20 +381,22 @@ fn the_same_seed_gives_the_same_events_and_another_does_not() {
 
 /// The command awaited, 0 if none.
 fn wait(laptop: &Laptop) -> u8 {
-    laptop.awaited().map_or(0, |request| request.command)
+    laptop
+        .awaited()
+        .map_or(0, |awaited| awaited.request.command)
 }
 
 fn sort(event: &Event) -> &'static str {
     match event {
         Event::Message { .. } => "message",
-        Event::Call(Call::Next | Call::StartOver) => "asking",
-        Event::Call(Call::Drop) => "drop",
+        Event::Call(Call::Next(_) | Call::StartOver(_)) => "asking",
+        Event::Call(Call::Drop(_)) => "drop",
         Event::Call(Call::Enter { .. } | Call::Exit { .. }) => "mode",
         Event::Call(Call::ProtocolError) => "error",
         Event::Call(_) => "timer",
         Event::Report { .. } => "report",
         Event::WriteCatalogue { .. } => "write",
-        Event::Lengths(_) => "lengths",
+        Event::Lengths { .. } => "lengths",
     }
 }
 
@@ -443,7 +447,7 @@ fn a_refusal_sends_writes_and_tells_nothing_and_leaves_all_alone_but_for_6_8_and
     let mut run = Run::default();
     for event in generate(3) {
         let before = run.laptop().clone();
-        let runs = (run.candidate().to_vec(), run.held().to_vec());
+        let runs = Side::BOTH.map(|side| run.runs(side).clone());
         let outcome = run.take(&event);
         let output = outcome.output.unwrap_or_default();
         if outcome.refusal == 0 {
@@ -454,13 +458,13 @@ fn a_refusal_sends_writes_and_tells_nothing_and_leaves_all_alone_but_for_6_8_and
         }
         assert!(output.iter().all(|&byte| byte == 0xEE));
         assert!(outcome.sent.is_empty() && outcome.told.is_none());
-        assert_eq!((run.candidate(), run.held()), (&runs.0[..], &runs.1[..]));
+        assert_eq!(Side::BOTH.map(|side| run.runs(side).clone()), runs);
         if *run.laptop() != before {
             assert!([6, 8, 14].contains(&outcome.refusal));
-            assert_eq!(*run.laptop().candidate(), Candidate::None);
+            assert_eq!(*run.laptop().candidate(Side::Partner), Candidate::None);
             assert_eq!(
-                (wait(run.laptop()), run.laptop().held()),
-                (0, before.held())
+                (wait(run.laptop()), run.laptop().held(Side::Partner)),
+                (0, before.held(Side::Partner))
             );
         }
     }

@@ -4,9 +4,10 @@ use second::call::Call;
 use second::laptop::Candidate;
 use second::link_events::generator::generate;
 use second::link_events::{Data, Event, Outcome, Start, System};
+use second::side::Side;
 
-const NEXT: Event = Event::Call(Call::Next);
-const DROP: Event = Event::Call(Call::Drop);
+const NEXT: Event = Event::Call(Call::Next(Side::Partner));
+const DROP: Event = Event::Call(Call::Drop(Side::Partner));
 const PROTOCOL_ERROR: Event = Event::Call(Call::ProtocolError);
 const ACCEPTED: Outcome = Outcome {
     permitted: true,
@@ -80,7 +81,7 @@ fn permitted(system: &System) -> Vec<Event> {
 }
 
 fn has_candidate(system: &System) -> bool {
-    *system.laptop().candidate() != Candidate::None
+    *system.laptop().candidate(Side::Partner) != Candidate::None
 }
 
 #[test]
@@ -118,7 +119,11 @@ fn calls_are_always_permitted_and_a_timer_only_in_a_wait() {
     assert_eq!(system.take(&PROTOCOL_ERROR), refused(9));
     assert_eq!(system.take(&Event::Timer), NOT_PERMITTED);
     let (svid, position) = (1, 1);
-    let enter = Event::Call(Call::Enter { svid, position });
+    let enter = Event::Call(Call::Enter {
+        side: Side::Partner,
+        svid,
+        position,
+    });
     assert_eq!(system.take(&enter), refused(12));
 }
 
@@ -169,7 +174,7 @@ fn a_late_answer_is_taken_for_a_newer_request_which_is_lost() {
     let mut system = open(13);
     accept(&mut system, &TAKEN[..3]);
     accept(&mut system, &[Event::Timer, NEXT, Event::AnswerArrives]);
-    assert_eq!(system.laptop().page_count(), 1);
+    assert_eq!(system.laptop().page_count(Side::Partner), 1);
     assert_eq!(system.laptop().awaited(), None);
     assert_eq!(permitted(&system), [Event::Sent, Event::Failed]);
     accept(&mut system, &[Event::Sent]);
@@ -183,7 +188,7 @@ fn a_late_page_with_nothing_awaited_ends_the_gathering() {
     accept(&mut system, &[Event::Timer]);
     assert_eq!(system.take(&Event::AnswerArrives), refused(6));
     assert!(!has_candidate(&system));
-    assert_eq!(system.laptop().page_count(), 0);
+    assert_eq!(system.laptop().page_count(Side::Partner), 0);
 }
 
 #[test]
@@ -194,17 +199,21 @@ fn policy_gives_what_the_data_holds_or_says_busy() {
         &mut system,
         &[Event::Busy, Event::AnswerArrives, Event::Sent],
     );
-    assert_eq!(system.laptop().page_count(), 0);
+    assert_eq!(system.laptop().page_count(Side::Partner), 0);
     exchange(&mut system);
     for _ in 1..=2 {
         exchange(&mut system);
     }
     assert_eq!(system.held_bytes(), Some(system.data().catalogue_bytes()));
     let (svid, position) = (2, 1);
-    let enter = Event::Call(Call::Enter { svid, position });
+    let enter = Event::Call(Call::Enter {
+        side: Side::Partner,
+        svid,
+        position,
+    });
     accept(&mut system, &[enter]);
     accept(&mut system, &TAKEN[1..]);
-    assert_eq!(system.laptop().entered_count(2), 1);
+    assert_eq!(system.laptop().entered_count(Side::Partner, 2), 1);
 }
 
 #[test]
@@ -212,7 +221,7 @@ fn an_empty_list_is_answered_with_nak_and_published() {
     let mut system = open(0);
     exchange(&mut system);
     assert_eq!(system.held_bytes(), Some(system.data().catalogue_bytes()));
-    assert_eq!(system.laptop().page_count(), 0);
+    assert_eq!(system.laptop().page_count(Side::Partner), 0);
 }
 
 /// Each way in which the confirmation of a counted page is lost, before the next request or with it.
@@ -250,7 +259,10 @@ fn a_lost_answer_a_last_page_and_busy_are_no_confirmation_lost() {
     accept(&mut system, &TAKEN);
     accept(&mut system, &[Event::Failed]);
     assert_eq!(
-        (system.laptop().page_count(), system.confirmations_lost()),
+        (
+            system.laptop().page_count(Side::Partner),
+            system.confirmations_lost()
+        ),
         (2, 0)
     );
 }
@@ -272,9 +284,9 @@ fn case_11_over_the_link_receives_three_pages() {
     accept(&mut system, &[Event::Failed]);
     exchange(&mut system);
     exchange(&mut system);
-    assert_eq!(system.laptop().page_count(), 3);
+    assert_eq!(system.laptop().page_count(Side::Partner), 3);
     assert!(matches!(
-        system.laptop().candidate(),
+        system.laptop().candidate(Side::Partner),
         Candidate::ListDone(_)
     ));
 }

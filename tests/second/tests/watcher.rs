@@ -2,6 +2,7 @@
 
 use second::call::Call;
 use second::laptop::{Candidate, Laptop};
+use second::side::Side;
 use second::watcher::answers::print_answers;
 use second::watcher::edges::edges;
 use second::watcher::generator::generate;
@@ -11,8 +12,9 @@ use std::collections::BTreeSet;
 
 const SEEDS: [u64; 4] = [0, 1, 2, u64::MAX];
 const HEADING: &str = "event refusal sent pages held\n";
-const KNOWN: [u8; 16] = [
-    1, 2, 3, 4, 5, 6, 7, 0x40, 0x41, 0x42, 0x43, 0x44, 0x45, 0x46, 0x47, 0x48,
+const KNOWN: [u8; 28] = [
+    1, 2, 3, 4, 5, 6, 7, 0x40, 0x41, 0x42, 0x43, 0x44, 0x45, 0x46, 0x47, 0x48, 0x81, 0x82, 0x83,
+    0x84, 0x85, 0x86, 0x87, 0xC0, 0xC1, 0xC2, 0xC7, 0xC8,
 ];
 const CASE_L: &str = "1 0 FF00A001 0 -\n\
     2 0 - 0 -\n\
@@ -219,7 +221,9 @@ fn nothing_counted_is_everything_missing() {
 
 /// The command awaited, 0 if none.
 fn wait(laptop: &Laptop) -> u8 {
-    laptop.awaited().map_or(0, |request| request.command)
+    laptop
+        .awaited()
+        .map_or(0, |awaited| awaited.request.command)
 }
 
 /// Every refusal that a sort of event can get in a wait.
@@ -253,8 +257,8 @@ fn reachable() -> BTreeSet<(&'static str, u8, u8)> {
 fn sort(event: &Event) -> &'static str {
     match event {
         Event::Message { .. } => "message",
-        Event::Call(Call::Next) | Event::Call(Call::StartOver) => "asking",
-        Event::Call(Call::Drop) => "drop",
+        Event::Call(Call::Next(_) | Call::StartOver(_)) => "asking",
+        Event::Call(Call::Drop(_)) => "drop",
         Event::Call(Call::ResponseTimer) => "response",
         Event::Call(Call::EntryTimer) => "entry",
         Event::Call(Call::ExitTimer) => "exit",
@@ -285,17 +289,20 @@ fn a_refusal_sends_nothing_and_leaves_the_laptop_alone_but_for_6_8_and_14() {
         let laptop = run.laptop();
         if outcome.refusal != 0 {
             assert_eq!(outcome.sent, None);
-            assert_eq!(laptop.held(), before.held());
+            assert_eq!(laptop.held(Side::Partner), before.held(Side::Partner));
         }
         match outcome.refusal {
             0 => assert!(outcome.sent.is_none() || laptop.awaited().is_some()),
             8 | 14 => {
-                assert_eq!(*laptop.candidate(), Candidate::None);
+                assert_eq!(*laptop.candidate(Side::Partner), Candidate::None);
                 assert_eq!(wait(laptop), 0);
             }
             6 if *laptop != before => {
-                assert!(matches!(before.candidate(), Candidate::ListOpen(_)));
-                assert_eq!(*laptop.candidate(), Candidate::None);
+                assert!(matches!(
+                    before.candidate(Side::Partner),
+                    Candidate::ListOpen(_)
+                ));
+                assert_eq!(*laptop.candidate(Side::Partner), Candidate::None);
                 assert_eq!(wait(&before), 0);
             }
             _ => assert_eq!(*laptop, before),
@@ -309,13 +316,13 @@ fn no_mode_is_entered_while_there_is_a_candidate_or_identity_is_awaited() {
     for event in generate(4) {
         run.take(&event);
         let laptop = run.laptop();
-        assert!(laptop.page_count() <= 200);
-        let gathering = *laptop.candidate() != Candidate::None || wait(laptop) == 1;
-        if let (true, Some(held)) = (gathering, laptop.held()) {
+        assert!(laptop.page_count(Side::Partner) <= 200);
+        let gathering = *laptop.candidate(Side::Partner) != Candidate::None || wait(laptop) == 1;
+        if let (true, Some(held)) = (gathering, laptop.held(Side::Partner)) {
             assert!(held
                 .svids
                 .iter()
-                .all(|&svid| laptop.entered_count(svid) == 0));
+                .all(|&svid| laptop.entered_count(Side::Partner, svid) == 0));
         }
     }
 }
@@ -323,7 +330,7 @@ fn no_mode_is_entered_while_there_is_a_candidate_or_identity_is_awaited() {
 #[test]
 fn the_edges_of_the_input_end_as_they_should() {
     let edges = edges();
-    let bodies = 4 * (1 + 2 + 3 + 4 + 5 + 6 + 7) + 2 * 3;
+    let bodies = 2 * (4 * (1 + 2 + 3 + 4 + 5 + 6 + 7) + 2 * 3);
     assert_eq!(edges.len(), 1 + bodies + (256 - KNOWN.len()) + 2);
     for (name, stream) in &edges {
         let printed = answers(stream);

@@ -4,6 +4,7 @@ use crate::call::Call;
 use crate::dock::{Dock, PolicyAnswer, Standing};
 use crate::laptop::Candidate;
 use crate::messages::{MODES, MOST_OBJECTS, OBJECT_BYTES};
+use crate::side::Side;
 use crate::watcher::{Event, Run};
 
 pub const IDENTITY_OBJECTS: [u32; 3] = [1, 2, 3];
@@ -27,10 +28,11 @@ impl Ends {
     /// A request of *next*, and its answer, which the dock is still sending then. Gives the answer
     /// and the number by which the laptop refuses it, or 0.
     pub fn exchange(&mut self, policy: PolicyAnswer) -> (Vec<u32>, u8) {
-        let asked = self.run.take(&Event::Call(Call::Next));
+        let asked = self.run.take(&Event::Call(Call::Next(Side::Partner)));
         let header = asked.sent.expect("next sends a request");
         let objects = answer(&mut self.dock, header, policy);
         let event = Event::Message {
+            side: Side::Partner,
             objects: objects.clone(),
         };
         (objects, self.run.take(&event).refusal)
@@ -46,7 +48,7 @@ impl Ends {
 
     /// Asks on until there is no candidate.
     pub fn gather(&mut self) {
-        while *self.run.laptop().candidate() != Candidate::None {
+        while *self.run.laptop().candidate(Side::Partner) != Candidate::None {
             self.exchange(PolicyAnswer::Give);
             self.confirm();
         }

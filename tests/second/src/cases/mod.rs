@@ -7,6 +7,7 @@ use crate::call::Call;
 use crate::dock::PolicyAnswer;
 use crate::messages;
 use crate::refusals::ACCEPTED;
+use crate::side::Side;
 use crate::stream::print_hex;
 use crate::watcher::answers::print_answer;
 use crate::watcher::{Event, Run};
@@ -15,7 +16,7 @@ use std::io::{self, Write};
 
 /// The number of SVIDs in cases 1 to 8.
 const LISTS: [u16; 8] = [0, 3, 4, 10, 11, 12, 13, 72];
-const NEXT: Event = Event::Call(Call::Next);
+const NEXT: Event = Event::Call(Call::Next(Side::Partner));
 const SVIDS_REQUEST: u32 = 0xFF00_A002;
 const IDENTITY_ACK: u32 = 0xFF00_A041;
 const SVIDS_ACK: u32 = 0xFF00_A042;
@@ -70,9 +71,10 @@ fn print_bad_page(output: &mut impl Write) -> io::Result<()> {
     for event in [NEXT, identity(), NEXT] {
         assert_eq!(run.take(&event).refusal, ACCEPTED);
     }
+    let side = Side::Partner;
     let objects = vec![SVIDS_ACK, 0x0001_0000, 0x0002_0000];
     let page = shown(&objects);
-    let refusal = run.take(&Event::Message { objects }).refusal;
+    let refusal = run.take(&Event::Message { side, objects }).refusal;
     writeln!(output, "case 10: {page}: refused {refusal}")
 }
 
@@ -88,7 +90,7 @@ fn print_unconfirmed(output: &mut impl Write) -> io::Result<()> {
         output,
         "case 11: n={}, first page unconfirmed once: {} pages received, {} SVIDs held",
         ends.dock.svid_count(),
-        ends.run.laptop().page_count(),
+        ends.run.laptop().page_count(Side::Partner),
         held(&ends.run)
     )
 }
@@ -115,6 +117,7 @@ fn print_voided(output: &mut impl Write) -> io::Result<()> {
 /// Case L: the watcher's lines, and the catalogue.
 fn print_case_l(output: &mut impl Write) -> io::Result<()> {
     let message = |objects: &[u32]| Event::Message {
+        side: Side::Partner,
         objects: objects.to_vec(),
     };
     let page = message(&[SVIDS_ACK, 0xFF01_0000]);
@@ -128,7 +131,7 @@ fn print_case_l(output: &mut impl Write) -> io::Result<()> {
 }
 
 fn print_catalogue(case: &str, run: &Run, output: &mut impl Write) -> io::Result<()> {
-    let bytes = run.held_bytes().unwrap_or_default();
+    let bytes = run.held_bytes(Side::Partner).unwrap_or_default();
     let (held, length) = (held(run), bytes.len());
     write!(
         output,
@@ -140,12 +143,15 @@ fn print_catalogue(case: &str, run: &Run, output: &mut impl Write) -> io::Result
 
 fn identity() -> Event {
     let objects = [&[IDENTITY_ACK], &IDENTITY_OBJECTS[..]].concat();
-    Event::Message { objects }
+    Event::Message {
+        side: Side::Partner,
+        objects,
+    }
 }
 
 /// The number of held SVIDs.
 fn held(run: &Run) -> String {
-    let held = run.laptop().held();
+    let held = run.laptop().held(Side::Partner);
     held.map_or("-".to_string(), |held| held.svids.len().to_string())
 }
 

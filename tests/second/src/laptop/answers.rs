@@ -1,39 +1,54 @@
 //! The messages that reach the laptop end: the awaited answers, and Attention.
 
-use super::{named_positions, Accepted, Answer, Candidate, Laptop, Reason, Runs, Told, MOST_PAGES};
+use super::side_state::{named_positions, SideState};
+use super::{Accepted, Answer, Candidate, Laptop, Reason, Runs, Told, MOST_PAGES};
 use crate::catalogue::Catalogue;
 use crate::messages::{self, Message, ACK, ATTENTION, ENTER, IDENTITY, MODES, NAK, REQ, SVIDS};
 use crate::pages::{take_page, Taken};
 use crate::refusals::{NOT_AWAITED, NO_END, VOIDED};
+use crate::side::Side;
 use std::mem;
 
 impl Laptop {
-    /// Takes a message, or refuses with 11 for a short run, then 1 to 5, then 6, 8, 14.
-    pub fn message(&mut self, bytes: &[u8], runs: &mut Runs) -> Answer {
+    /// Takes a message from a side, whatever the other awaits, or refuses with 11 for a short run,
+    /// then 1 to 5, then 6, 8, 14.
+    pub fn message(&mut self, side: Side, bytes: &[u8], runs: &mut Runs) -> Answer {
         runs.check()?;
         let message = messages::read(bytes)?;
         if message.command == ATTENTION {
-            return Ok(Accepted::telling(Told::Attention(message)));
+            return Ok(Accepted::telling(Told::Attention { side, message }));
         }
-        if message.kind == REQ || self.awaited != Some(message.request()) {
-            self.drop_on_late_page(&message);
+        let awaited = self.awaited_from(side);
+        if message.kind == REQ || awaited != Some(message.request()) {
+            if awaited.is_none() {
+                self.states[side].drop_on_late_page(&message);
+            }
             return Err(NOT_AWAITED);
         }
         self.awaited = None;
-        self.take_answer(&message, runs)
+        let unmarked = self.states[side].take_answer(&message, runs)?;
+        let told = unmarked.map(|reason| Told::Unmarked {
+            side,
+            request: message.request(),
+            reason,
+        });
+        Ok(Accepted { length: 0, told })
     }
+}
 
-    /// A page that comes while the list is open and nothing is awaited may have been confirmed.
+impl SideState {
+    /// A page that comes while the list is open and nothing is awaited from the side may have been
+    /// confirmed.
     fn drop_on_late_page(&mut self, message: &Message) {
         let is_page = message.command == SVIDS && message.kind == ACK;
-        let list_is_open = matches!(self.candidate, Candidate::ListOpen(_));
-        if is_page && list_is_open && self.awaited.is_none() {
+        if is_page && matches!(self.candidate, Candidate::ListOpen(_)) {
             self.candidate = Candidate::None;
         }
     }
 
-    /// Each answer about the catalogue says what candidate it leaves; a refusal leaves none.
-    fn take_answer(&mut self, message: &Message, runs: &mut Runs) -> Answer {
+    /// Gives why an enter or exit came to nothing, if it did. Each answer about the catalogue says
+    /// what candidate it leaves; a refusal leaves none.
+    fn take_answer(&mut self, message: &Message, runs: &mut Runs) -> Result<Option<Reason>, u8> {
         self.candidate = match (message.command, mem::take(&mut self.candidate)) {
             (IDENTITY, _) => identity_answer(message),
             (SVIDS, Candidate::ListOpen(gathered)) => self.list_answer(gathered, message, runs)?,
@@ -43,7 +58,7 @@ impl Laptop {
                 return Ok(self.mark_answer(message));
             }
         };
-        Ok(Accepted::default())
+        Ok(None)
     }
 
     fn list_answer(
@@ -95,9 +110,8 @@ impl Laptop {
         Candidate::None
     }
 
-    fn mark_answer(&mut self, message: &Message) -> Accepted {
-        let request = message.request();
-        let reason = match message.kind {
+    fn mark_answer(&mut self, message: &Message) -> Option<Reason> {
+        match message.kind {
             ACK => {
                 let positions = named_positions(message.position);
                 let set = self.entered.entry(message.svid).or_default();
@@ -105,12 +119,11 @@ impl Laptop {
                     ENTER => *set |= positions,
                     _ => *set &= !positions,
                 }
-                return Accepted::default();
+                None
             }
-            NAK => Reason::Nak,
-            _ => Reason::Busy,
-        };
-        Accepted::telling(Told::Unmarked { request, reason })
+            NAK => Some(Reason::Nak),
+            _ => Some(Reason::Busy),
+        }
     }
 }
 

@@ -1,71 +1,67 @@
-//! The owner's calls: next, start over, drop, enter and exit.
+//! The owner's calls for a side: next, start over, drop, enter and exit. While an answer is awaited
+//! from either side, all are refused 7.
 
-use super::{named_positions, Accepted, Answer, Candidate, Laptop, Runs};
+use super::side_state::{named_positions, SideState};
+use super::{Accepted, Answer, Awaited, Candidate, Laptop, Runs};
 use crate::messages::{
     self, Request, ENTER, EXIT, IDENTITY, LAST_POSITION, MODES, OBJECT_BYTES, PD_SID, REQ, SVIDS,
 };
 use crate::refusals::{ACCEPTED, AWAITING, BLOCKED, NOT_HELD};
+use crate::side::Side;
 
 impl Laptop {
     /// Sends the request that the candidate needs next, or refuses with 11 for a short run, then 7,
     /// 13 and 11 for a short buffer.
-    pub fn next(&mut self, runs: &mut Runs, out: &mut [u8]) -> Answer {
+    pub fn next(&mut self, side: Side, runs: &mut Runs, out: &mut [u8]) -> Answer {
         self.check_call(runs)?;
-        self.check_none_entered()?;
-        let missing = match &self.candidate {
-            Candidate::None => None,
-            Candidate::ListOpen(_) => Some((PD_SID, SVIDS)),
-            Candidate::ListDone(catalogue) => {
-                catalogue.first_without_modes().map(|svid| (svid, MODES))
-            }
-        };
-        let (svid, command) = missing.unwrap_or((PD_SID, IDENTITY));
-        self.send(svid, command, 0, out)
+        self.states[side].check_none_entered()?;
+        let (svid, command) = self.states[side].needed_next();
+        self.send(side, svid, command, 0, out)
     }
 
     /// Drops the candidate and sends Identity, or refuses as next does.
-    pub fn start_over(&mut self, runs: &mut Runs, out: &mut [u8]) -> Answer {
+    pub fn start_over(&mut self, side: Side, runs: &mut Runs, out: &mut [u8]) -> Answer {
         self.check_call(runs)?;
-        self.check_none_entered()?;
-        let answer = self.send(PD_SID, IDENTITY, 0, out)?;
-        self.candidate = Candidate::None;
+        self.states[side].check_none_entered()?;
+        let answer = self.send(side, PD_SID, IDENTITY, 0, out)?;
+        self.states[side].candidate = Candidate::None;
         Ok(answer)
     }
 
     /// Drops the candidate, or refuses with 11 for a short run, then 7.
-    pub fn drop(&mut self, runs: &mut Runs) -> Answer {
+    pub fn drop(&mut self, side: Side, runs: &mut Runs) -> Answer {
         self.check_call(runs)?;
-        self.candidate = Candidate::None;
+        self.states[side].candidate = Candidate::None;
         Ok(Accepted::default())
     }
 
     /// Sends Enter, or refuses with 11 for a short run, then 7, 13 for a candidate, 12, 13 for an
     /// entered mode and 11 for a short buffer.
-    pub fn enter(&mut self, svid: u16, position: u8, runs: &mut Runs, out: &mut [u8]) -> Answer {
+    pub fn enter(
+        &mut self,
+        side: Side,
+        svid: u16,
+        position: u8,
+        runs: &mut Runs,
+        out: &mut [u8],
+    ) -> Answer {
         self.check_call(runs)?;
-        if self.candidate != Candidate::None {
-            return Err(BLOCKED);
-        }
-        if !self.holds_mode(svid, position) {
-            return Err(NOT_HELD);
-        }
-        if self.entered_set(svid) & named_positions(position) != 0 {
-            return Err(BLOCKED);
-        }
-        self.send(svid, ENTER, position, out)
+        self.states[side].check_enter(svid, position)?;
+        self.send(side, svid, ENTER, position, out)
     }
 
     /// Sends Exit, or refuses with 11 for a short run, then 7, 12, 13 and 11 for a short buffer.
-    pub fn exit(&mut self, svid: u16, position: u8, runs: &mut Runs, out: &mut [u8]) -> Answer {
+    pub fn exit(
+        &mut self,
+        side: Side,
+        svid: u16,
+        position: u8,
+        runs: &mut Runs,
+        out: &mut [u8],
+    ) -> Answer {
         self.check_call(runs)?;
-        let is_all = position == LAST_POSITION && self.holds_svid(svid);
-        if !is_all && !self.holds_mode(svid, position) {
-            return Err(NOT_HELD);
-        }
-        if self.entered_set(svid) & named_positions(position) == 0 {
-            return Err(BLOCKED);
-        }
-        self.send(svid, EXIT, position, out)
+        self.states[side].check_exit(svid, position)?;
+        self.send(side, svid, EXIT, position, out)
     }
 
     fn check_call(&self, runs: &Runs) -> Result<(), u8> {
@@ -76,8 +72,67 @@ impl Laptop {
         Ok(())
     }
 
+    /// Writes the request and awaits its answer, or refuses with 11 and stays as it was.
+    fn send(&mut self, side: Side, svid: u16, command: u8, position: u8, out: &mut [u8]) -> Answer {
+        let refusal = messages::write(svid, command, REQ, position, &[], out);
+        if refusal != ACCEPTED {
+            return Err(refusal);
+        }
+        if command == IDENTITY {
+            self.states[side].page_count = 0;
+        }
+        let request = Request {
+            svid,
+            command,
+            position,
+        };
+        self.awaited = Some(Awaited { side, request });
+        Ok(Accepted {
+            length: OBJECT_BYTES,
+            told: None,
+        })
+    }
+}
+
+impl SideState {
+    /// The SVID and command that the candidate needs next.
+    fn needed_next(&self) -> (u16, u8) {
+        let missing = match &self.candidate {
+            Candidate::None => None,
+            Candidate::ListOpen(_) => Some((PD_SID, SVIDS)),
+            Candidate::ListDone(catalogue) => {
+                catalogue.first_without_modes().map(|svid| (svid, MODES))
+            }
+        };
+        missing.unwrap_or((PD_SID, IDENTITY))
+    }
+
     fn check_none_entered(&self) -> Result<(), u8> {
         if self.entered.values().any(|&set| set != 0) {
+            return Err(BLOCKED);
+        }
+        Ok(())
+    }
+
+    fn check_enter(&self, svid: u16, position: u8) -> Result<(), u8> {
+        if self.candidate != Candidate::None {
+            return Err(BLOCKED);
+        }
+        if !self.holds_mode(svid, position) {
+            return Err(NOT_HELD);
+        }
+        if self.entered_set(svid) & named_positions(position) != 0 {
+            return Err(BLOCKED);
+        }
+        Ok(())
+    }
+
+    fn check_exit(&self, svid: u16, position: u8) -> Result<(), u8> {
+        let is_all = position == LAST_POSITION && self.holds_svid(svid);
+        if !is_all && !self.holds_mode(svid, position) {
+            return Err(NOT_HELD);
+        }
+        if self.entered_set(svid) & named_positions(position) == 0 {
             return Err(BLOCKED);
         }
         Ok(())
@@ -91,25 +146,5 @@ impl Laptop {
         self.held
             .as_ref()
             .is_some_and(|held| held.has_mode(svid, position))
-    }
-
-    /// Writes the request and awaits its answer, or refuses with 11 and stays as it was.
-    fn send(&mut self, svid: u16, command: u8, position: u8, out: &mut [u8]) -> Answer {
-        let refusal = messages::write(svid, command, REQ, position, &[], out);
-        if refusal != ACCEPTED {
-            return Err(refusal);
-        }
-        if command == IDENTITY {
-            self.page_count = 0;
-        }
-        self.awaited = Some(Request {
-            svid,
-            command,
-            position,
-        });
-        Ok(Accepted {
-            length: OBJECT_BYTES,
-            told: None,
-        })
     }
 }

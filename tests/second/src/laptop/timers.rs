@@ -1,6 +1,7 @@
-//! The ends of a wait without an answer: the three timers and the protocol error.
+//! The ends of a wait without an answer: the three timers and the protocol error. They concern the
+//! side that waits.
 
-use super::{Accepted, Answer, Laptop, Reason, Told};
+use super::{Accepted, Answer, Awaited, Laptop, Reason, Told};
 use crate::messages::{ENTER, EXIT, IDENTITY, MODES};
 use crate::refusals::NOT_TAKEN_NOW;
 use std::ops::RangeInclusive;
@@ -25,16 +26,20 @@ impl Laptop {
     /// Ends the wait for one of these commands, or refuses with 9. The candidate stays: while
     /// Identity is awaited there is none.
     fn end_wait(&mut self, commands: RangeInclusive<u8>, reason: Reason) -> Answer {
-        let Some(request) = self.awaited else {
+        let Some(Awaited { side, request }) = self.awaited else {
             return Err(NOT_TAKEN_NOW);
         };
         if !commands.contains(&request.command) {
             return Err(NOT_TAKEN_NOW);
         }
         self.awaited = None;
-        match request.command {
-            ENTER | EXIT => Ok(Accepted::telling(Told::Unmarked { request, reason })),
-            _ => Ok(Accepted::default()),
-        }
+        Ok(match request.command {
+            ENTER | EXIT => Accepted::telling(Told::Unmarked {
+                side,
+                request,
+                reason,
+            }),
+            _ => Accepted::default(),
+        })
     }
 }

@@ -3,6 +3,7 @@
 use super::{Event, Item, Outcome, Run};
 use crate::digest;
 use crate::fields::{self, or_nothing};
+use crate::side::Side;
 use crate::stream::{print_hex, print_lines, Place, Stop};
 use std::io::{self, BufRead, Write};
 
@@ -54,13 +55,13 @@ fn print_outcome(outcome: &Outcome, output: &mut impl Write) -> io::Result<()> {
 /// What the laptop and its runs have come to.
 fn print_laptop(run: &Run, output: &mut impl Write) -> io::Result<()> {
     let laptop = run.laptop();
-    let awaited = or_nothing(laptop.awaited().map(fields::request));
-    let candidate = fields::candidate(laptop.candidate());
-    let pages = laptop.page_count();
-    let held = fields::held_count(laptop);
+    let awaited = or_nothing(laptop.awaited_from(Side::Partner).map(fields::request));
+    let candidate = fields::candidate(laptop.candidate(Side::Partner));
+    let pages = laptop.page_count(Side::Partner);
+    let held = fields::held_count(laptop, Side::Partner);
     write!(output, " {awaited} {candidate} {pages} {held}")?;
-    let candidate_run = digest::of_words(run.candidate());
-    let held_run = digest::of_words(run.held());
+    let candidate_run = digest::of_words(&run.runs(Side::Partner).candidate);
+    let held_run = digest::of_words(&run.runs(Side::Partner).held);
     write!(output, " {candidate_run:08X} {held_run:08X}")
 }
 

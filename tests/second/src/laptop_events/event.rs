@@ -2,6 +2,7 @@
 
 use crate::call::Call;
 use crate::messages::flip_reserved;
+use crate::side::Side;
 use crate::stream::{count_byte, take_bytes, take_kind, take_run, Stop};
 use std::io::{self, BufRead, Read, Write};
 
@@ -27,20 +28,27 @@ pub enum Item {
 pub enum Event {
     /// A message of any length up to 40 bytes.
     Message {
+        side: Side,
         bytes: Vec<u8>,
     },
     Call(Call),
     Report {
+        side: Side,
         svid: u16,
     },
     /// The held catalogue is written to an output buffer of so many bytes, at most 2,500.
     WriteCatalogue {
+        side: Side,
         room: u16,
     },
-    Lengths(Lengths),
+    Lengths {
+        side: Side,
+        lengths: Lengths,
+    },
 }
 
-/// How much later calls are lent: bytes of the output buffer and words of each run, at most 440.
+/// How much later calls of a side are lent: bytes of the output buffer and words of each run, at
+/// most 440.
 #[derive(Clone, Copy, Debug, PartialEq, Eq)]
 pub struct Lengths {
     pub output: u8,
@@ -73,7 +81,7 @@ pub fn put_streams(streams: &[Vec<Event>], output: &mut impl Write) -> io::Resul
 impl Event {
     /// The same event, a message with bit 5 of its header the other way round.
     pub fn with_reserved_flipped(mut self) -> Self {
-        if let Event::Message { bytes } = &mut self {
+        if let Event::Message { bytes, .. } = &mut self {
             flip_reserved(bytes);
         }
         self
@@ -81,48 +89,63 @@ impl Event {
 
     /// The event that this byte opens.
     fn take(kind: u8, input: &mut impl Read) -> Result<Self, Stop> {
-        Ok(match kind {
-            MESSAGE => Self::take_message(input)?,
+        let (side, of_partner) = Side::of_kind(kind);
+        Ok(match of_partner {
+            MESSAGE => Self::take_message(side, input)?,
             REPORT => {
                 let svid = u16::from_le_bytes(take_bytes(input)?);
-                Event::Report { svid }
+                Event::Report { side, svid }
             }
             WRITE_CATALOGUE => {
                 let room = u16::from_le_bytes(take_bytes(input)?);
-                Event::WriteCatalogue { room }
+                Event::WriteCatalogue { side, room }
             }
-            LENGTHS => Event::Lengths(Lengths::take(input)?),
-            kind => Event::Call(Call::take(kind, input)?),
+            LENGTHS => {
+                let lengths = Lengths::take(input)?;
+                Event::Lengths { side, lengths }
+            }
+            _ => Event::Call(Call::take(kind, input)?),
         })
     }
 
-    fn take_message(input: &mut impl Read) -> Result<Self, Stop> {
+    fn take_message(side: Side, input: &mut impl Read) -> Result<Self, Stop> {
         let [length] = take_bytes(input)?;
         let bytes = take_run(input, length.min(MOST_MESSAGE_BYTES))?;
-        Ok(Event::Message { bytes })
+        Ok(Event::Message { side, bytes })
+    }
+
+    /// The side of the kind. A timer or a protocol error says none.
+    pub fn side(&self) -> Option<Side> {
+        match self {
+            Event::Message { side, .. }
+            | Event::Report { side, .. }
+            | Event::WriteCatalogue { side, .. }
+            | Event::Lengths { side, .. } => Some(*side),
+            Event::Call(call) => call.side(),
+        }
     }
 
     pub fn kind(&self) -> u8 {
         match self {
-            Event::Message { .. } => MESSAGE,
+            Event::Message { side, .. } => side.twin(MESSAGE),
             Event::Call(call) => call.kind(),
-            Event::Report { .. } => REPORT,
-            Event::WriteCatalogue { .. } => WRITE_CATALOGUE,
-            Event::Lengths(_) => LENGTHS,
+            Event::Report { side, .. } => side.twin(REPORT),
+            Event::WriteCatalogue { side, .. } => side.twin(WRITE_CATALOGUE),
+            Event::Lengths { side, .. } => side.twin(LENGTHS),
         }
     }
 
     fn put(&self, output: &mut impl Write) -> io::Result<()> {
         output.write_all(&[self.kind()])?;
         match self {
-            Event::Message { bytes } => {
+            Event::Message { bytes, .. } => {
                 output.write_all(&[count_byte(bytes)])?;
                 output.write_all(bytes)
             }
             Event::Call(call) => call.put_body(output),
-            Event::Report { svid } => output.write_all(&svid.to_le_bytes()),
-            Event::WriteCatalogue { room } => output.write_all(&room.to_le_bytes()),
-            Event::Lengths(lengths) => lengths.put(output),
+            Event::Report { svid, .. } => output.write_all(&svid.to_le_bytes()),
+            Event::WriteCatalogue { room, .. } => output.write_all(&room.to_le_bytes()),
+            Event::Lengths { lengths, .. } => lengths.put(output),
         }
     }
 }

@@ -13,6 +13,7 @@ use crate::laptop::Candidate;
 use crate::messages::bytes_of;
 use crate::random::Random;
 use crate::reached::{beside_refusals, refusals};
+use crate::side::Side;
 use crate::watcher;
 use std::collections::BTreeSet;
 
@@ -36,7 +37,7 @@ struct Generator {
 /// leave a laptop that awaits, gathers and holds nothing, as those events expect it.
 pub fn generate(seed: u64) -> Vec<Event> {
     let mut generator = Generator::of(Random::from_seed(seed));
-    generator.nothing_held();
+    generator.nothing_held(Side::Partner);
     generator.past_two_hundred();
     for event in watcher::generator::generate(seed) {
         generator.among(&event.into());
@@ -65,16 +66,16 @@ pub fn expected() -> Vec<String> {
 impl From<watcher::Event> for Event {
     fn from(event: watcher::Event) -> Self {
         match event {
-            watcher::Event::Message { objects } => Event::of_objects(&objects),
+            watcher::Event::Message { side, objects } => Event::of_objects(side, &objects),
             watcher::Event::Call(call) => Event::Call(call),
         }
     }
 }
 
 impl Event {
-    fn of_objects(objects: &[u32]) -> Self {
+    fn of_objects(side: Side, objects: &[u32]) -> Self {
         let bytes = bytes_of(objects);
-        Event::Message { bytes }
+        Event::Message { side, bytes }
     }
 }
 
@@ -100,19 +101,19 @@ impl Generator {
         let situation = self.situation(event);
         if self.situations.insert(situation) {
             self.with_each_short_length(event);
-            self.write_with_all_runs(MOST_CATALOGUE_ROOM);
+            self.write_with_all_runs(Side::Partner, MOST_CATALOGUE_ROOM);
         }
         if self.random.is_rare() {
             self.damaged(event);
         }
-        let held_before = self.run.laptop().held().cloned();
+        let held_before = self.run.laptop().held(Side::Partner).cloned();
         if self.random.is_rare() {
             self.with_drawn_lengths(event);
         } else {
             self.push(event.clone());
         }
-        if self.run.laptop().held() != held_before.as_ref() {
-            self.catalogue_at_its_length();
+        if self.run.laptop().held(Side::Partner) != held_before.as_ref() {
+            self.catalogue_at_its_length(Side::Partner);
         }
         if self.random.is_rare() {
             self.drawn_reading(event);
@@ -121,7 +122,7 @@ impl Generator {
 
     /// As among others, but of those only one sort at a time.
     fn seldom_among(&mut self, event: &Event) {
-        let held_before = self.run.laptop().held().cloned();
+        let held_before = self.run.laptop().held(Side::Partner).cloned();
         match self.random.below(SELDOM) {
             0 => self.with_drawn_lengths(event),
             1 => {
@@ -140,19 +141,19 @@ impl Generator {
                 self.push(event.clone());
             }
         }
-        if self.run.laptop().held() != held_before.as_ref() {
-            self.catalogue_at_its_length();
+        if self.run.laptop().held(Side::Partner) != held_before.as_ref() {
+            self.catalogue_at_its_length(Side::Partner);
         }
     }
 
     fn situation(&self, event: &Event) -> (u8, &'static str, Option<u8>) {
         let laptop = self.run.laptop();
-        let candidate = match laptop.candidate() {
+        let candidate = match laptop.candidate(Side::Partner) {
             Candidate::None => NO_CANDIDATE,
             Candidate::ListOpen(_) => LIST_OPEN,
             Candidate::ListDone(_) => LIST_DONE,
         };
-        let command = laptop.awaited().map(|request| request.command);
+        let command = laptop.awaited().map(|awaited| awaited.request.command);
         (event.kind(), candidate, command)
     }
 }

@@ -3,6 +3,8 @@
 use super::event::{Event, Lengths, MOST_CATALOGUE_ROOM, WHOLE_RUN};
 use crate::call::Call;
 use crate::laptop::{Answer, Laptop, Runs, Told};
+use crate::lent_runs::LentRuns;
+use crate::side::{Side, Sides};
 
 /// What an output buffer holds before a call, and each byte of a run at the start.
 const UNWRITTEN: u8 = 0xEE;
@@ -10,9 +12,8 @@ const UNWRITTEN_WORD: u32 = u32::from_le_bytes([UNWRITTEN; 4]);
 
 pub struct Run {
     laptop: Laptop,
-    candidate: Vec<u32>,
-    held: Vec<u32>,
-    lengths: Lengths,
+    runs: Sides<LentRuns>,
+    lengths: Sides<Lengths>,
 }
 
 /// What an event led to.
@@ -33,9 +34,8 @@ impl Default for Run {
     fn default() -> Self {
         Run {
             laptop: Laptop::fresh(),
-            candidate: vec![UNWRITTEN_WORD; usize::from(WHOLE_RUN)],
-            held: vec![UNWRITTEN_WORD; usize::from(WHOLE_RUN)],
-            lengths: Lengths::WHOLE,
+            runs: Sides::each(|_| LentRuns::of(UNWRITTEN_WORD, usize::from(WHOLE_RUN))),
+            lengths: Sides::each(|_| Lengths::WHOLE),
         }
     }
 }
@@ -45,40 +45,37 @@ impl Run {
         &self.laptop
     }
 
-    /// The whole run of the candidate, however much of it is lent.
-    pub fn candidate(&self) -> &[u32] {
-        &self.candidate
-    }
-
-    /// The whole held run.
-    pub fn held(&self) -> &[u32] {
-        &self.held
+    /// Both whole runs of a side, however much of them is lent.
+    pub fn runs(&self, side: Side) -> &LentRuns {
+        &self.runs[side]
     }
 
     pub fn take(&mut self, event: &Event) -> Outcome {
         match event {
-            Event::Message { bytes } => self.message(bytes),
+            Event::Message { side, bytes } => self.message(*side, bytes),
             Event::Call(call) => self.call(*call),
-            Event::Report { svid } => Outcome {
-                report: Some(self.laptop.entered_count(*svid)),
+            Event::Report { side, svid } => Outcome {
+                report: Some(self.laptop.entered_count(*side, *svid)),
                 ..Outcome::default()
             },
-            Event::WriteCatalogue { room } => self.write_catalogue(*room),
-            Event::Lengths(lengths) => {
-                self.lengths = *lengths;
+            Event::WriteCatalogue { side, room } => self.write_catalogue(*side, *room),
+            Event::Lengths { side, lengths } => {
+                self.lengths[*side] = *lengths;
                 Outcome::default()
             }
         }
     }
 
-    fn message(&mut self, bytes: &[u8]) -> Outcome {
-        let answer = self.lent(|laptop, runs| laptop.message(bytes, runs));
+    fn message(&mut self, side: Side, bytes: &[u8]) -> Outcome {
+        let answer = self.lent(side, |laptop, runs| laptop.message(side, bytes, runs));
         outcome(answer, Vec::new())
     }
 
+    /// A timer or a protocol error is lent nothing, so any side serves.
     fn call(&mut self, call: Call) -> Outcome {
-        let mut output = vec![UNWRITTEN; usize::from(self.lengths.output)];
-        let answer = self.lent(|laptop, runs| call.make(laptop, runs, &mut output));
+        let side = call.side().unwrap_or(Side::Partner);
+        let mut output = vec![UNWRITTEN; usize::from(self.lengths[side].output)];
+        let answer = self.lent(side, |laptop, runs| call.make(laptop, runs, &mut output));
         let length = answer.map_or(0, |accepted| accepted.length);
         Outcome {
             output: call.may_send().then(|| output.clone()),
@@ -86,19 +83,20 @@ impl Run {
         }
     }
 
-    /// Makes the call with as much of the runs as is lent.
-    fn lent(&mut self, call: impl FnOnce(&mut Laptop, &mut Runs) -> Answer) -> Answer {
+    /// Makes the call with as much of the side's runs as is lent.
+    fn lent(&mut self, side: Side, call: impl FnOnce(&mut Laptop, &mut Runs) -> Answer) -> Answer {
+        let (runs, lengths) = (&mut self.runs[side], self.lengths[side]);
         let runs = &mut Runs {
-            held: &mut self.held[..lent_words(self.lengths.held)],
-            candidate: &mut self.candidate[..lent_words(self.lengths.candidate)],
+            held: &mut runs.held[..lent_words(lengths.held)],
+            candidate: &mut runs.candidate[..lent_words(lengths.candidate)],
         };
         call(&mut self.laptop, runs)
     }
 
-    fn write_catalogue(&self, room: u16) -> Outcome {
+    fn write_catalogue(&self, side: Side, room: u16) -> Outcome {
         let mut output = vec![UNWRITTEN; usize::from(room.min(MOST_CATALOGUE_ROOM))];
-        let held = &self.held[..lent_words(self.lengths.held)];
-        let result = self.laptop.write_catalogue(held, &mut output);
+        let held = &self.runs[side].held[..lent_words(self.lengths[side].held)];
+        let result = self.laptop.write_catalogue(side, held, &mut output);
         Outcome {
             refusal: result.err().unwrap_or_default(),
             catalogue: result.ok().map(|length| output[..length].to_vec()),

@@ -9,6 +9,7 @@ use crate::messages::{
     has_reserved, read, Message, Request, ACK, ENTER, EXIT, IDENTITY, MODES, REQ, SVIDS,
 };
 use crate::refusals::{ACCEPTED, NOT_AWAITED, NOT_WHOLE_OBJECTS, WRONG_SHAPE};
+use crate::side::Side;
 
 const STREAMS: &str = "streams";
 const REPEAT: &str = "repeat of the last page taken";
@@ -54,13 +55,13 @@ impl Tally {
     fn count(&mut self, event: &Event) {
         let laptop = self.run.laptop();
         let before = Before {
-            awaited: laptop.awaited(),
-            candidate: laptop.candidate().clone(),
-            page_count: laptop.page_count(),
+            awaited: laptop.awaited_from(Side::Partner),
+            candidate: laptop.candidate(Side::Partner).clone(),
+            page_count: laptop.page_count(Side::Partner),
         };
         let outcome = self.run.take(event);
         match event {
-            Event::Message { bytes } => match read(bytes) {
+            Event::Message { bytes, .. } => match read(bytes) {
                 Ok(message) => {
                     self.count_reserved(bytes, &before, &outcome);
                     self.count_message(&message, &before, &outcome);
@@ -91,8 +92,8 @@ impl Tally {
         if is_page && before.page_count == MOST_PAGES && outcome.refusal == NOT_AWAITED {
             self.counts.add(PAGE_201.to_string());
         }
-        let has_new_page = self.run.laptop().page_count() > before.page_count;
-        if has_new_page && *self.run.laptop().candidate() == before.candidate {
+        let has_new_page = self.run.laptop().page_count(Side::Partner) > before.page_count;
+        if has_new_page && *self.run.laptop().candidate(Side::Partner) == before.candidate {
             self.counts.add(REPEAT.to_string());
         }
         self.count_late(message, before, outcome);

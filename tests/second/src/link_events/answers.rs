@@ -3,6 +3,7 @@
 use super::checks::{Demand, Observed};
 use super::{Event, Item, Outcome, Start, System};
 use crate::fields::{self, or_nothing, NOTHING};
+use crate::side::Side;
 use crate::stream::{print_lines, Place, Stop};
 use std::io::{self, BufRead, Write};
 
@@ -67,10 +68,10 @@ fn print_answer(course: &Course, outcome: Outcome, output: &mut impl Write) -> i
     };
     let Course { place, system, .. } = course;
     let refusal = or_nothing(outcome.refusal.map(|refusal| refusal.to_string()));
-    let pages = system.laptop().page_count();
-    let candidate = fields::candidate(system.laptop().candidate());
+    let pages = system.laptop().page_count(Side::Partner);
+    let candidate = fields::candidate(system.laptop().candidate(Side::Partner));
     write!(output, "{place} {permitted} {refusal} {pages} {candidate}")?;
-    let held = fields::held_count(system.laptop());
+    let held = fields::held_count(system.laptop(), Side::Partner);
     let catalogue = or_nothing(system.held_bytes().as_deref().map(fields::digest_of));
     let (page, lost) = (system.dock().page(), system.confirmations_lost());
     writeln!(output, " {held} {catalogue} {page} {lost}")

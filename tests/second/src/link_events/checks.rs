@@ -9,6 +9,7 @@ use crate::laptop::Candidate;
 use crate::messages::{read, Request, IDENTITY};
 use crate::pages::PAGE_SVIDS;
 use crate::refusals::{ACCEPTED, NOT_WHOLE_OBJECTS, VOIDED, WRONG_SHAPE};
+use crate::side::Side;
 
 pub const REFUSED_UNFAIRLY: &str = "a fair message was refused 1 to 5, or 8";
 pub const NEITHER_OLD_NOR_WHOLE: &str = "what is held is neither the old catalogue nor the whole";
@@ -44,10 +45,10 @@ impl Observed {
     pub fn of(system: &System) -> Self {
         Observed {
             held: system.held_bytes(),
-            candidate: system.laptop().candidate().clone(),
-            awaited: system.laptop().awaited(),
+            candidate: system.laptop().candidate(Side::Partner).clone(),
+            awaited: system.laptop().awaited_from(Side::Partner),
             answer: system.link().answer().map(<[u8]>::to_vec),
-            page_count: system.laptop().page_count(),
+            page_count: system.laptop().page_count(Side::Partner),
             confirmations_lost: system.confirmations_lost(),
         }
     }
@@ -112,7 +113,7 @@ impl Demand {
             }
             Event::Call(call) if outcome.refusal == Some(ACCEPTED) => {
                 let goes_out = self.last.awaits_identity() && before.awaited.is_none();
-                if matches!(call, Call::Drop) || goes_out {
+                if matches!(call, Call::Drop(_)) || goes_out {
                     self.needed.begin_anew();
                 }
                 Arrival::Other
@@ -178,5 +179,5 @@ fn check_refusal(outcome: Outcome) -> Result<(), &'static str> {
 /// By drop or start over.
 fn is_given_up(event: &Event, outcome: Outcome) -> bool {
     let is_accepted = outcome.refusal == Some(ACCEPTED);
-    is_accepted && matches!(event, Event::Call(Call::Drop | Call::StartOver))
+    is_accepted && matches!(event, Event::Call(Call::Drop(_) | Call::StartOver(_)))
 }

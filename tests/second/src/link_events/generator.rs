@@ -13,6 +13,7 @@ use crate::dock::{LEAST_IDENTITY, MOST_IDENTITY, MOST_SVIDS};
 use crate::laptop::Candidate;
 use crate::pages::PAGE_SVIDS;
 use crate::random::Random;
+use crate::side::Side;
 use short::Sort;
 
 pub use short::STREAMS;
@@ -87,11 +88,11 @@ impl Generator {
     }
 
     fn next(&mut self) -> Outcome {
-        self.push(Event::Call(Call::Next))
+        self.push(Event::Call(Call::Next(Side::Partner)))
     }
 
     fn has_candidate(&self) -> bool {
-        *self.system.laptop().candidate() != Candidate::None
+        *self.system.laptop().candidate(Side::Partner) != Candidate::None
     }
 
     /// The event that brings an exchange on: what is under way first, then the confirmation.
@@ -122,7 +123,7 @@ impl Generator {
     /// Opens an empty list.
     fn open(&mut self) {
         self.finish();
-        self.push(Event::Call(Call::StartOver));
+        self.push(Event::Call(Call::StartOver(Side::Partner)));
         self.finish();
     }
 

@@ -12,6 +12,7 @@ use crate::laptop::{Answer, Candidate, Laptop, Runs};
 use crate::messages::{MODES, MOST_OBJECTS, OBJECT_BYTES, SVIDS};
 use crate::pages::PAGE_SVIDS;
 use crate::refusals::NOT_TAKEN_NOW;
+use crate::side::Side;
 
 const ROOM: usize = MOST_OBJECTS * OBJECT_BYTES;
 
@@ -60,7 +61,10 @@ impl System {
     /// The held catalogue's bytes.
     pub fn held_bytes(&self) -> Option<Vec<u8>> {
         let mut bytes = [0; MOST_CATALOGUE_BYTES];
-        let length = self.laptop.write_catalogue(&self.held, &mut bytes).ok()?;
+        let length = self
+            .laptop
+            .write_catalogue(Side::Partner, &self.held, &mut bytes)
+            .ok()?;
         Some(bytes[..length].to_vec())
     }
 
@@ -120,7 +124,10 @@ impl System {
     }
 
     fn timer(&mut self) -> Result<(), u8> {
-        let request = self.laptop.awaited().ok_or(NOT_TAKEN_NOW)?;
+        let request = self
+            .laptop
+            .awaited_from(Side::Partner)
+            .ok_or(NOT_TAKEN_NOW)?;
         self.call(Call::timer(request.command))
     }
 
@@ -155,10 +162,11 @@ impl System {
 
     fn arrive(&mut self) -> Result<(), u8> {
         let bytes = self.link.answer().ok_or(NOT_TAKEN_NOW)?.to_vec();
-        let pages = self.laptop.page_count();
+        let pages = self.laptop.page_count(Side::Partner);
         let had_candidate = self.has_candidate();
-        let answer = self.lent(|laptop, runs| laptop.message(&bytes, runs));
-        self.link.answer_arrived(self.laptop.page_count() > pages);
+        let answer = self.lent(|laptop, runs| laptop.message(Side::Partner, &bytes, runs));
+        self.link
+            .answer_arrived(self.laptop.page_count(Side::Partner) > pages);
         if self.has_candidate() && !had_candidate {
             self.confirmations_lost = 0;
         }
@@ -185,7 +193,7 @@ impl System {
     }
 
     fn has_candidate(&self) -> bool {
-        *self.laptop.candidate() != Candidate::None
+        *self.laptop.candidate(Side::Partner) != Candidate::None
     }
 
     /// A request not yet at the dock when its wait ends is lost.

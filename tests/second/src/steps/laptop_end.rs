@@ -5,6 +5,7 @@ use crate::call::Call;
 use crate::catalogue::{Catalogue, MOST_CATALOGUE_BYTES, RUN_WORDS};
 use crate::laptop::{Accepted, Answer, Candidate, Laptop, Reason, Runs, Told};
 use crate::messages::ATTENTION;
+use crate::side::Side;
 
 const UNWRITTEN_WORD: u32 = u32::from_ne_bytes([UNWRITTEN; 4]);
 
@@ -47,7 +48,7 @@ impl LaptopEnd {
                 return Ok(format!("made, {}", self.state()));
             }
             "laptop_report" => {
-                let entered = self.laptop.entered_count(words.hex()?);
+                let entered = self.laptop.entered_count(Side::Partner, words.hex()?);
                 return Ok(format!("{entered} entered"));
             }
             "runs" => {
@@ -71,7 +72,7 @@ impl LaptopEnd {
             candidate: &mut self.run[..self.run_words],
         };
         if name == "laptop_message" {
-            return Ok(self.laptop.message(&words.bytes()?, runs));
+            return Ok(self.laptop.message(Side::Partner, &words.bytes()?, runs));
         }
         let call = call_of(name, words)?;
         Ok(call.make(&mut self.laptop, runs, &mut self.out[..room]))
@@ -81,15 +82,17 @@ impl LaptopEnd {
         let before = self.clone();
         let held_run = &self.held_run[..self.held_run_words];
         let out = &mut self.catalogue[..room];
-        Ok(match self.laptop.write_catalogue(held_run, out) {
-            Ok(length) => {
-                let (written, past) = self.catalogue.split_at(length);
-                let bytes: String = written.iter().map(|byte| format!("{byte:02X}")).collect();
-                let past = written_past(past, length);
-                format!("accepted, length {length}, bytes {bytes}{past}")
-            }
-            Err(refusal) => self.refused(refusal, &before),
-        })
+        Ok(
+            match self.laptop.write_catalogue(Side::Partner, held_run, out) {
+                Ok(length) => {
+                    let (written, past) = self.catalogue.split_at(length);
+                    let bytes: String = written.iter().map(|byte| format!("{byte:02X}")).collect();
+                    let past = written_past(past, length);
+                    format!("accepted, length {length}, bytes {bytes}{past}")
+                }
+                Err(refusal) => self.refused(refusal, &before),
+            },
+        )
     }
 
     fn accepted(&mut self, accepted: &Accepted, before: &Self) -> String {
@@ -117,41 +120,43 @@ impl LaptopEnd {
 
     /// The twelve numbers; one that stands for nothing is a dash.
     fn state(&self) -> String {
-        let awaited = match self.laptop.awaited() {
+        let awaited = match self.laptop.awaited_from(Side::Partner) {
             Some(request) => format!(
                 "1 {:04X} {} {}",
                 request.svid, request.command, request.position
             ),
             None => "0 - - -".to_string(),
         };
-        let candidate = match self.laptop.candidate() {
+        let candidate = match self.laptop.candidate(Side::Partner) {
             Candidate::None => "0 - - -".to_string(),
             Candidate::ListOpen(gathered) => format!("1 {}", sizes(gathered)),
             Candidate::ListDone(gathered) => format!("2 {}", sizes(gathered)),
         };
-        let held = match self.laptop.held() {
+        let held = match self.laptop.held(Side::Partner) {
             Some(held) => format!("1 {} {}", held.identity.len(), held.svids.len()),
             None => "0 - -".to_string(),
         };
-        let pages = self.laptop.page_count();
+        let pages = self.laptop.page_count(Side::Partner);
         format!("state {awaited} {candidate} {pages} {held}")
     }
 }
 
 fn call_of(name: &str, words: &mut Words) -> Result<Call, String> {
     Ok(match name {
-        "laptop_next" => Call::Next,
-        "laptop_start_over" => Call::StartOver,
-        "laptop_drop" => Call::Drop,
+        "laptop_next" => Call::Next(Side::Partner),
+        "laptop_start_over" => Call::StartOver(Side::Partner),
+        "laptop_drop" => Call::Drop(Side::Partner),
         "laptop_response_timer" => Call::ResponseTimer,
         "laptop_entry_timer" => Call::EntryTimer,
         "laptop_exit_timer" => Call::ExitTimer,
         "laptop_protocol_error" => Call::ProtocolError,
         "laptop_enter" => Call::Enter {
+            side: Side::Partner,
             svid: words.hex()?,
             position: words.decimal()?,
         },
         "laptop_exit" => Call::Exit {
+            side: Side::Partner,
             svid: words.hex()?,
             position: words.decimal()?,
         },
@@ -164,14 +169,16 @@ fn handed(accepted: &Accepted) -> [u32; 7] {
     let length = accepted.length as u32;
     match accepted.told {
         None => [length, 0, 0, 0, 0, 0, 0],
-        Some(Told::Attention(message)) => {
+        Some(Told::Attention { message, .. }) => {
             let objects = message.objects.as_slice();
             let object = objects.first().copied().unwrap_or(0);
             let [svid, position] = [message.svid.into(), message.position.into()];
             let (command, count) = (ATTENTION.into(), objects.len() as u32);
             [length, 1, svid, command, position, count, object]
         }
-        Some(Told::Unmarked { request, reason }) => {
+        Some(Told::Unmarked {
+            request, reason, ..
+        }) => {
             let told = match reason {
                 Reason::Nak => 2,
                 Reason::Busy => 3,

@@ -1,6 +1,8 @@
 //! Answers a stream of laptop events, a line each.
 
 use super::{Event, Run};
+use crate::fields;
+use crate::side::Side;
 use crate::stream::print_lines;
 use std::io::{self, BufRead, Write};
 
@@ -13,7 +15,8 @@ pub fn print_answers(input: &mut impl BufRead, output: &mut impl Write) -> io::R
     })
 }
 
-/// The line of one event.
+/// The line of one event: the count and the list are the cable's if the event says so, and else the
+/// partner's.
 pub fn print_answer(
     number: usize,
     event: &Event,
@@ -26,9 +29,8 @@ pub fn print_answer(
         Some(header) => write!(output, "{header:08X}")?,
         None => write!(output, "-")?,
     }
-    write!(output, " {} ", run.laptop().page_count())?;
-    match run.laptop().held() {
-        Some(held) => writeln!(output, "{}", held.svids.len()),
-        None => writeln!(output, "-"),
-    }
+    let side = event.side().unwrap_or(Side::Partner);
+    let pages = run.laptop().page_count(side);
+    let held = fields::held_count(run.laptop(), side);
+    writeln!(output, " {pages} {held}")
 }

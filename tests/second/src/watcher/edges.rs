@@ -1,11 +1,12 @@
 //! Streams at the edges of the watcher's input: none, a body that is cut, a kind that there is not,
 //! and as many events as are read, or one more.
 
-use super::event::KINDS;
+use super::event::kinds;
 use super::generator::generate;
 use super::Event;
 use crate::call::{Call, ENTER, EXIT};
 use crate::messages::OBJECT_BYTES;
+use crate::side::Side;
 
 const MOST_EVENTS: usize = 1_000_000;
 /// What fills a body.
@@ -16,10 +17,11 @@ pub fn edges() -> Vec<(String, Vec<u8>)> {
     let counts = [MOST_EVENTS, MOST_EVENTS + 1];
     let many = counts.map(|count| (format!("{count}_events"), events(count)));
     let mut edges = vec![("empty".to_string(), Vec::new())];
-    edges.extend(KINDS.iter().flat_map(|&kind| cut(kind)));
+    let kinds = kinds();
+    edges.extend(kinds.iter().flat_map(|&kind| cut(kind)));
     edges.extend(
         (0..=u8::MAX)
-            .filter(|kind| !KINDS.contains(kind))
+            .filter(|kind| !kinds.contains(kind))
             .map(unknown),
     );
     edges.extend(many);
@@ -34,14 +36,20 @@ fn cut(kind: u8) -> impl Iterator<Item = (String, Vec<u8>)> {
         let body = vec![FILLING; length];
         (
             name,
-            [&bytes(&[Call::Drop.into()])[..], &[kind], &body].concat(),
+            [
+                &bytes(&[Call::Drop(Side::Partner).into()])[..],
+                &[kind],
+                &body,
+            ]
+            .concat(),
         )
     })
 }
 
 fn body_length(kind: u8) -> usize {
-    match kind {
-        1..=7 => usize::from(kind) * OBJECT_BYTES,
+    let (_, of_partner) = Side::of_kind(kind);
+    match of_partner {
+        1..=7 => usize::from(of_partner) * OBJECT_BYTES,
         ENTER | EXIT => 3,
         _ => 0,
     }
@@ -49,7 +57,7 @@ fn body_length(kind: u8) -> usize {
 
 /// The kind between two events.
 fn unknown(kind: u8) -> (String, Vec<u8>) {
-    let event = bytes(&[Call::Drop.into()]);
+    let event = bytes(&[Call::Drop(Side::Partner).into()]);
     let name = format!("kind_{kind:02X}_unknown");
     (name, [&event[..], &[kind], &event].concat())
 }

@@ -5,33 +5,25 @@ use crate::call::{
     START_OVER,
 };
 use crate::messages::flip_reserved_of;
+use crate::side::Side;
 use crate::stream::{count_byte, put_objects, take_kind, take_objects, Stop};
 use std::io::{self, BufRead, Write};
 
-/// Every byte that opens an event; 1 to 7 are the number of a message's objects.
-pub const KINDS: [u8; 16] = [
-    1,
-    2,
-    3,
-    4,
-    5,
-    6,
-    7,
-    NEXT,
-    START_OVER,
-    DROP,
-    RESPONSE_TIMER,
-    ENTRY_TIMER,
-    EXIT_TIMER,
-    PROTOCOL_ERROR,
-    ENTER,
-    EXIT,
-];
+/// The kinds that say a side, as the partner's; 1 to 7 are the number of a message's objects.
+const KINDS_OF_SIDE: [u8; 12] = [1, 2, 3, 4, 5, 6, 7, NEXT, START_OVER, DROP, ENTER, EXIT];
+const KINDS_WITHOUT_SIDE: [u8; 4] = [RESPONSE_TIMER, ENTRY_TIMER, EXIT_TIMER, PROTOCOL_ERROR];
+
+/// Every byte that opens an event.
+pub fn kinds() -> Vec<u8> {
+    let of_sides = Side::BOTH.map(|side| KINDS_OF_SIDE.map(|kind| side.twin(kind)));
+    [&of_sides[0][..], &KINDS_WITHOUT_SIDE, &of_sides[1]].concat()
+}
 
 #[derive(Clone, Debug, PartialEq, Eq)]
 pub enum Event {
     /// A message of 1 to 7 objects.
     Message {
+        side: Side,
         objects: Vec<u32>,
     },
     Call(Call),
@@ -46,7 +38,7 @@ impl From<Call> for Event {
 impl Event {
     /// The same event, a message with bit 5 of its header the other way round.
     pub fn with_reserved_flipped(mut self) -> Self {
-        if let Event::Message { objects } = &mut self {
+        if let Event::Message { objects, .. } = &mut self {
             flip_reserved_of(objects);
         }
         self
@@ -54,18 +46,27 @@ impl Event {
 
     pub fn take(input: &mut impl BufRead) -> Result<Self, Stop> {
         let kind = take_kind(input)?;
-        Ok(match kind {
+        let (side, of_partner) = Side::of_kind(kind);
+        Ok(match of_partner {
             1..=7 => {
-                let objects = take_objects(input, kind)?;
-                Event::Message { objects }
+                let objects = take_objects(input, of_partner)?;
+                Event::Message { side, objects }
             }
             _ => Event::Call(Call::take(kind, input)?),
         })
     }
 
+    /// The side of a message or an owner's call. A timer or a protocol error says none.
+    pub fn side(&self) -> Option<Side> {
+        match self {
+            Event::Message { side, .. } => Some(*side),
+            Event::Call(call) => call.side(),
+        }
+    }
+
     pub fn kind(&self) -> u8 {
         match self {
-            Event::Message { objects } => count_byte(objects),
+            Event::Message { side, objects } => side.twin(count_byte(objects)),
             Event::Call(call) => call.kind(),
         }
     }
@@ -73,7 +74,7 @@ impl Event {
     pub fn put(&self, output: &mut impl Write) -> io::Result<()> {
         output.write_all(&[self.kind()])?;
         match self {
-            Event::Message { objects } => put_objects(objects, output),
+            Event::Message { objects, .. } => put_objects(objects, output),
             Event::Call(call) => call.put_body(output),
         }
     }

@@ -15,12 +15,13 @@ mod unheld;
 use super::{Event, Outcome, Run};
 use crate::call::Call;
 use crate::header::Header;
-use crate::laptop::Candidate;
+use crate::laptop::{Awaited, Candidate};
 use crate::messages::{
     Request, ACK, BUSY, IDENTITY, LAST_POSITION, MODES, MOST_AFTER_HEADER, NAK, PD_SID, SVIDS,
 };
 use crate::pages::{page, PAGE_SVIDS};
 use crate::random::Random;
+use crate::side::{Side, Sides};
 
 const LEAST_IDENTITY: usize = 3;
 const ANSWERS: [u8; 3] = [ACK, NAK, BUSY];
@@ -29,8 +30,10 @@ struct Generator {
     random: Random,
     /// The laptop under the events so far.
     run: Run,
-    /// The last request sent.
-    asked: Request,
+    /// The side whose messages and owner's calls come now.
+    side: Side,
+    /// The last request sent to each side.
+    asked: Sides<Request>,
     events: Vec<Event>,
 }
 
@@ -65,11 +68,12 @@ impl Generator {
         Generator {
             random,
             run: Run::default(),
-            asked: Request {
+            side: Side::Partner,
+            asked: Sides::each(|_| Request {
                 svid: PD_SID,
                 command: IDENTITY,
                 position: 0,
-            },
+            }),
             events: Vec::new(),
         }
     }
@@ -77,20 +81,37 @@ impl Generator {
     fn push(&mut self, event: impl Into<Event>) -> Outcome {
         let event = event.into();
         let outcome = self.run.take(&event);
-        if let Some(request) = self.run.laptop().awaited() {
-            self.asked = request;
+        if let Some(Awaited { side, request }) = self.run.laptop().awaited() {
+            self.asked[side] = request;
         }
         self.events.push(event);
         outcome
     }
 
     fn next(&mut self) -> Outcome {
-        self.push(Call::Next)
+        self.push(Call::Next(self.side))
+    }
+
+    fn enter(&mut self, svid: u16, position: u8) -> Outcome {
+        self.push(Call::Enter {
+            side: self.side,
+            svid,
+            position,
+        })
+    }
+
+    fn exit(&mut self, svid: u16, position: u8) -> Outcome {
+        self.push(Call::Exit {
+            side: self.side,
+            svid,
+            position,
+        })
     }
 
     fn message(&mut self, header: Header, after: &[u32]) -> Outcome {
         let objects = [&[header.word()], after].concat();
-        self.push(Event::Message { objects })
+        let side = self.side;
+        self.push(Event::Message { side, objects })
     }
 
     /// The header of an answer to the last request.
@@ -99,7 +120,7 @@ impl Generator {
             svid,
             command,
             position,
-        } = self.asked;
+        } = self.asked[self.side];
         Header::ours(svid, command, kind, position)
     }
 
@@ -116,7 +137,7 @@ impl Generator {
     }
 
     fn good_objects(&mut self, kind: u8) -> Vec<u32> {
-        match (kind, self.asked.command) {
+        match (kind, self.asked[self.side].command) {
             (ACK, IDENTITY) => {
                 let more = self.random.below(MOST_AFTER_HEADER - LEAST_IDENTITY + 1);
                 self.random.objects(LEAST_IDENTITY + more)
@@ -146,14 +167,13 @@ impl Generator {
             self.push(Call::ProtocolError);
         }
         for svid in self.held_svids() {
-            if self.run.laptop().entered_count(svid) > 0 {
-                let position = LAST_POSITION;
-                self.push(Call::Exit { svid, position });
+            if self.run.laptop().entered_count(self.side, svid) > 0 {
+                self.exit(svid, LAST_POSITION);
                 self.acknowledge();
             }
         }
-        if *self.run.laptop().candidate() != Candidate::None {
-            self.push(Call::Drop);
+        if *self.run.laptop().candidate(self.side) != Candidate::None {
+            self.push(Call::Drop(self.side));
         }
     }
 
@@ -189,7 +209,7 @@ impl Generator {
     }
 
     fn held_svids(&self) -> Vec<u16> {
-        let held = self.run.laptop().held();
+        let held = self.run.laptop().held(self.side);
         held.map(|held| held.svids.clone()).unwrap_or_default()
     }
 }

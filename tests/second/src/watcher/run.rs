@@ -2,14 +2,15 @@
 
 use super::Event;
 use crate::catalogue::{MOST_CATALOGUE_BYTES, RUN_WORDS};
-use crate::laptop::{Answer, Laptop, Runs};
+use crate::laptop::{Answer, Laptop};
+use crate::lent_runs::LentRuns;
 use crate::messages::{bytes_of, OBJECT_BYTES};
 use crate::refusals::ACCEPTED;
+use crate::side::{Side, Sides};
 
 pub struct Run {
     laptop: Laptop,
-    held: Vec<u32>,
-    candidate: Vec<u32>,
+    runs: Sides<LentRuns>,
     /// Room for a request, which is one object.
     buffer: [u8; OBJECT_BYTES],
 }
@@ -26,8 +27,7 @@ impl Default for Run {
     fn default() -> Self {
         Run {
             laptop: Laptop::fresh(),
-            held: vec![0; RUN_WORDS],
-            candidate: vec![0; RUN_WORDS],
+            runs: Sides::each(|_| LentRuns::of(0, RUN_WORDS)),
             buffer: [0; OBJECT_BYTES],
         }
     }
@@ -38,11 +38,12 @@ impl Run {
         &self.laptop
     }
 
-    /// The held catalogue's bytes.
-    pub fn held_bytes(&self) -> Option<Vec<u8>> {
+    /// The bytes of a side's held catalogue.
+    pub fn held_bytes(&self, side: Side) -> Option<Vec<u8>> {
         let mut bytes = [0; MOST_CATALOGUE_BYTES];
-        let length = self.laptop.write_catalogue(&self.held, &mut bytes).ok()?;
-        Some(bytes[..length].to_vec())
+        let held_run = &self.runs[side].held;
+        let written = self.laptop.write_catalogue(side, held_run, &mut bytes);
+        Some(bytes[..written.ok()?].to_vec())
     }
 
     pub fn take(&mut self, event: &Event) -> Outcome {
@@ -59,12 +60,11 @@ impl Run {
     }
 
     fn attempt(&mut self, event: &Event) -> Answer {
-        let runs = &mut Runs {
-            held: &mut self.held,
-            candidate: &mut self.candidate,
-        };
+        let runs = &mut self.runs[event.side().unwrap_or(Side::Partner)].whole();
         match event {
-            Event::Message { objects } => self.laptop.message(&bytes_of(objects), runs),
+            Event::Message { side, objects } => {
+                self.laptop.message(*side, &bytes_of(objects), runs)
+            }
             Event::Call(call) => call.make(&mut self.laptop, runs, &mut self.buffer),
         }
     }

@@ -1,6 +1,6 @@
 //! Counts what a stream of laptop events reaches, and tells what it never reaches.
 
-use super::event::KINDS;
+use super::event::kinds;
 use super::{Event, Run};
 use crate::laptop::{Candidate, Laptop};
 use crate::messages::{
@@ -12,6 +12,7 @@ use crate::refusals::{
     ACCEPTED, AWAITING, BLOCKED, NOT_AWAITED, NOT_HELD, NOT_STRUCTURED, NOT_TAKEN_NOW, NO_END,
     UNREAD_MAJOR, VOIDED, WRONG_SHAPE,
 };
+use crate::side::Side;
 use std::collections::BTreeMap;
 use std::fmt;
 
@@ -64,24 +65,25 @@ pub struct Tally {
 impl Tally {
     pub fn count(&mut self, event: &Event) {
         let wait = wait(self.run.laptop());
-        let state = (candidate(self.run.laptop()), wait);
-        let held_before = self.run.laptop().held().cloned();
+        let state = (candidate(self.run.laptop().candidate(Side::Partner)), wait);
+        let side = event.side().unwrap_or(Side::Partner);
+        let held_before = self.run.laptop().held(side).cloned();
         let outcome = self.run.take(event);
         *self.pairs.entry((event.kind(), wait)).or_default() += 1;
         *self.states.entry(state).or_default() += 1;
         *self.refusals.entry(outcome.refusal).or_default() += 1;
         let laptop = self.run.laptop();
-        if let (Some(_), Some(request)) = (outcome.sent, laptop.awaited()) {
-            let sent = (request.command, request.position);
+        if let (Some(_), Some(awaited)) = (outcome.sent, laptop.awaited()) {
+            let sent = (awaited.request.command, awaited.request.position);
             *self.requests.entry(sent).or_default() += 1;
         }
         if let Some(held) = laptop
-            .held()
+            .held(side)
             .filter(|&held| Some(held) != held_before.as_ref())
         {
             *self.lists.entry(held.svids.len()).or_default() += 1;
         }
-        if let Event::Message { objects } = event {
+        if let Event::Message { objects, .. } = event {
             self.count_reserved(&bytes_of(objects), outcome.refusal);
         }
     }
@@ -99,9 +101,10 @@ impl Tally {
     pub fn missing(&self) -> Vec<String> {
         let refusals = absent(&self.refusals, REFUSALS)
             .map(|refusal| format!("refusal {refusal} never occurred"));
-        let pairs = KINDS
-            .iter()
-            .flat_map(|&kind| WAITS.map(|wait| (kind, wait)));
+        let pairs = kinds()
+            .into_iter()
+            .filter(|&kind| Side::of_kind(kind).0 == Side::Partner)
+            .flat_map(|kind| WAITS.map(|wait| (kind, wait)));
         let pairs = absent(&self.pairs, pairs)
             .map(|(kind, wait)| format!("kind {kind:02X} awaiting {wait} never occurred"));
         let states = absent(&self.states, STATES)
@@ -174,12 +177,14 @@ fn taken() -> impl Iterator<Item = (u8, u8)> {
 
 /// Commands 1 to 5 are awaited, so 0 stands for nothing.
 fn wait(laptop: &Laptop) -> &'static str {
-    let command = laptop.awaited().map_or(0, |request| request.command);
+    let command = laptop
+        .awaited()
+        .map_or(0, |awaited| awaited.request.command);
     WAITS[usize::from(command)]
 }
 
-fn candidate(laptop: &Laptop) -> &'static str {
-    match laptop.candidate() {
+fn candidate(candidate: &Candidate) -> &'static str {
+    match candidate {
         Candidate::None => NO_CANDIDATE,
         Candidate::ListOpen(_) => LIST_OPEN,
         Candidate::ListDone(_) => LIST_DONE,

@@ -1,6 +1,7 @@
 //! A laptop on a bench, with all that is lent to it, for the tests of the laptop end.
 
 use second::laptop::{Answer, Laptop, Runs, Told};
+use second::side::Side;
 
 pub const IDENTITY_ACK: [u32; 4] = [0xFF00_A041, 0x1111_2222, 0, 0xFFFF_FFFF];
 pub const UNWRITTEN_WORD: u32 = 0x5A5A_5A5A;
@@ -59,11 +60,15 @@ impl Bench {
 
     pub fn message(&mut self, objects: &[u32]) -> Seen {
         let bytes = bytes(objects);
-        self.called(ROOM, |laptop, runs, _| laptop.message(&bytes, runs))
+        self.called(ROOM, |laptop, runs, _| {
+            laptop.message(Side::Partner, &bytes, runs)
+        })
     }
 
     pub fn next(&mut self) -> Seen {
-        self.called(ROOM, |laptop, runs, out| laptop.next(runs, out))
+        self.called(ROOM, |laptop, runs, out| {
+            laptop.next(Side::Partner, runs, out)
+        })
     }
 
     /// The next request, which must have this header, and its answer.
@@ -108,7 +113,7 @@ impl Bench {
             let answer = [&[header | 0x40], modes].concat();
             assert_eq!(bench.exchange(header, &answer), Ok((None, None)));
         }
-        assert!(bench.laptop.held().is_some());
+        assert!(bench.laptop.held(Side::Partner).is_some());
         bench
     }
 }

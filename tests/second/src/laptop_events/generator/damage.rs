@@ -3,12 +3,13 @@
 use super::{Event, Generator};
 use crate::laptop_events::event::MOST_MESSAGE_BYTES;
 use crate::messages::{MOST_OBJECTS, OBJECT_BYTES};
+use crate::side::Side;
 
 impl Generator {
     /// The message with some bytes less or more, or drawn bytes for any other event.
     pub(super) fn damaged(&mut self, event: &Event) {
         let sound = match event {
-            Event::Message { bytes } => bytes.len(),
+            Event::Message { bytes, .. } => bytes.len(),
             _ => 0,
         };
         let drawn = self.random.below(usize::from(MOST_MESSAGE_BYTES) + 1);
@@ -19,11 +20,12 @@ impl Generator {
             return;
         }
         let mut bytes = match event {
-            Event::Message { bytes } => bytes.clone(),
+            Event::Message { bytes, .. } => bytes.clone(),
             _ => Vec::new(),
         };
         bytes.resize_with(length, || self.random.byte());
-        self.push(Event::Message { bytes });
+        let side = event.side().unwrap_or(Side::Partner);
+        self.push(Event::Message { side, bytes });
     }
 }
 

@@ -5,6 +5,7 @@ use crate::catalogue::RUN_WORDS;
 use crate::laptop_events::event::{Lengths, WHOLE_RUN};
 use crate::messages::OBJECT_BYTES;
 use crate::refusals::SHORT_RUN;
+use crate::side::Side;
 
 const ENOUGH_WORDS: u16 = RUN_WORDS as u16;
 const ENOUGH_BYTES: u8 = OBJECT_BYTES as u8;
@@ -17,35 +18,45 @@ impl Generator {
             Event::Call(call) => (call.is_owners(), call.may_send()),
             _ => (false, false),
         };
+        let side = event.side().unwrap_or(Side::Partner);
         if lent_runs {
             self.with_words(ENOUGH_WORDS - 1, ENOUGH_WORDS, event);
             self.with_words(ENOUGH_WORDS, ENOUGH_WORDS - 1, event);
         }
         if lent_output {
-            self.push(Event::Lengths(Lengths {
-                output: ENOUGH_BYTES - 1,
-                ..Lengths::WHOLE
-            }));
+            self.lend(
+                side,
+                Lengths {
+                    output: ENOUGH_BYTES - 1,
+                    ..Lengths::WHOLE
+                },
+            );
             self.push(event.clone());
         }
-        self.push(Event::Lengths(Lengths::WHOLE));
+        self.lend(side, Lengths::WHOLE);
     }
 
     fn with_words(&mut self, candidate: u16, held: u16, event: &Event) {
-        self.push(Event::Lengths(Lengths {
+        let lengths = Lengths {
             candidate,
             held,
             ..Lengths::WHOLE
-        }));
+        };
+        self.lend(event.side().unwrap_or(Side::Partner), lengths);
         self.push(event.clone());
+    }
+
+    pub(super) fn lend(&mut self, side: Side, lengths: Lengths) {
+        self.push(Event::Lengths { side, lengths });
     }
 
     /// The event with drawn lengths, and once more with the whole ones if they were too short.
     pub(super) fn with_drawn_lengths(&mut self, event: &Event) {
         let lengths = self.drawn_lengths();
-        self.push(Event::Lengths(lengths));
+        let side = event.side().unwrap_or(Side::Partner);
+        self.lend(side, lengths);
         let outcome = self.push(event.clone());
-        self.push(Event::Lengths(Lengths::WHOLE));
+        self.lend(side, Lengths::WHOLE);
         if outcome.refusal == SHORT_RUN {
             self.push(event.clone());
         }

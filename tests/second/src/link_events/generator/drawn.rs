@@ -4,6 +4,7 @@ use super::{Event, Generator};
 use crate::call::Call;
 use crate::messages::LAST_POSITION;
 use crate::refusals::BLOCKED;
+use crate::side::Side;
 
 const JOURNEYS: usize = 40;
 const STEPS: usize = 80;
@@ -71,10 +72,14 @@ impl Generator {
 
     /// Drop and start over are rare, or long lists would never be gathered.
     fn asking(&mut self) {
-        let rare = self.random.one_of(&[Call::Drop, Call::StartOver]);
+        let rare = self
+            .random
+            .one_of(&[Call::Drop(Side::Partner), Call::StartOver(Side::Partner)]);
         let call = match self.random.is_rare() {
             true => rare,
-            false => self.random.one_of(&[Call::Next, Call::ProtocolError]),
+            false => self
+                .random
+                .one_of(&[Call::Next(Side::Partner), Call::ProtocolError]),
         };
         self.push(Event::Call(call));
     }
@@ -87,24 +92,37 @@ impl Generator {
         }
         let svid = self.random.one_of(&svids);
         let position = self.random.byte() & LAST_POSITION;
-        let enter = Call::Enter { svid, position };
-        let exit = Call::Exit { svid, position };
+        let side = Side::Partner;
+        let enter = Call::Enter {
+            side,
+            svid,
+            position,
+        };
+        let exit = Call::Exit {
+            side,
+            svid,
+            position,
+        };
         let call = self.random.one_of(&[enter, exit]);
         self.push(Event::Call(call));
     }
 
     pub(super) fn leave_all_modes(&mut self) {
         for svid in self.held_svids() {
-            if self.system.laptop().entered_count(svid) > 0 {
-                let position = LAST_POSITION;
-                self.push(Event::Call(Call::Exit { svid, position }));
+            if self.system.laptop().entered_count(Side::Partner, svid) > 0 {
+                let (side, position) = (Side::Partner, LAST_POSITION);
+                self.push(Event::Call(Call::Exit {
+                    side,
+                    svid,
+                    position,
+                }));
                 self.finish();
             }
         }
     }
 
     pub(super) fn held_svids(&self) -> Vec<u16> {
-        let held = self.system.laptop().held();
+        let held = self.system.laptop().held(Side::Partner);
         held.map(|held| held.svids.clone()).unwrap_or_default()
     }
 }

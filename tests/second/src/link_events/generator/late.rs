@@ -2,6 +2,7 @@
 
 use super::{Event, Generator};
 use crate::call::Call;
+use crate::side::Side;
 
 /// What the dock hears of an answer that is still under way.
 pub const HEARD: [Option<Event>; 3] = [None, Some(Event::Sent), Some(Event::Failed)];
@@ -20,7 +21,7 @@ impl Generator {
     /// A wait for the answer to Identity, or to a request of the list or of its modes, has ended.
     fn end_wait(&mut self, exchanges: usize, heard: Option<Event>) {
         self.finish();
-        self.push(Event::Call(Call::Drop));
+        self.push(Event::Call(Call::Drop(Side::Partner)));
         for _ in 0..exchanges {
             self.exchange();
         }

@@ -7,6 +7,7 @@ use super::{Event, Generator, MOST_SVIDS};
 use crate::call::Call;
 use crate::laptop::MOST_PAGES;
 use crate::pages::PAGE_SVIDS;
+use crate::side::Side;
 
 /// How many streams are stored: a long one, and all sorts of short ones.
 pub const STREAMS: u64 = 1 + LONG + ROUNDS * LENGTHS;
@@ -133,10 +134,22 @@ impl Generator {
 
     /// Enters and exits over the link, of the first mode of what is held and of a drawn one.
     fn few_modes(&mut self) {
-        let position = 1;
+        let (side, position) = (Side::Partner, 1);
         for svid in self.held_svids() {
-            let enter = Call::Enter { svid, position };
-            for call in [enter, Call::Exit { svid, position }, enter] {
+            let enter = Call::Enter {
+                side,
+                svid,
+                position,
+            };
+            for call in [
+                enter,
+                Call::Exit {
+                    side,
+                    svid,
+                    position,
+                },
+                enter,
+            ] {
                 self.push(Event::Call(call));
                 self.finish();
             }

@@ -4,6 +4,7 @@
 use super::{Event, Generator};
 use crate::laptop::{Candidate, MOST_PAGES};
 use crate::pages::PAGE_SVIDS;
+use crate::side::Side;
 
 /// The ways in which a counted page stays unconfirmed.
 const WAYS: [[Option<Event>; 2]; 3] = [
@@ -52,7 +53,7 @@ impl Generator {
         self.open();
         while self.list_is_open()
             && !self.last_page_is_shown()
-            && self.system.laptop().page_count() < pages
+            && self.system.laptop().page_count(Side::Partner) < pages
         {
             self.page_unconfirmed();
         }
@@ -68,6 +69,9 @@ impl Generator {
     }
 
     pub(super) fn list_is_open(&self) -> bool {
-        matches!(self.system.laptop().candidate(), Candidate::ListOpen(_))
+        matches!(
+            self.system.laptop().candidate(Side::Partner),
+            Candidate::ListOpen(_)
+        )
     }
 }

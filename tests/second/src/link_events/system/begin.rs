@@ -8,10 +8,11 @@ use crate::laptop::Laptop;
 use crate::link_events::link::Link;
 use crate::link_events::{Data, Event, Start};
 use crate::messages::{self, Request, IDENTITY, OBJECT_BYTES, PD_SID, REQ, SVIDS};
+use crate::side::Side;
 
 /// What becomes of a request without losses.
 const EXCHANGE: [Event; 5] = [
-    Event::Call(Call::Next),
+    Event::Call(Call::Next(Side::Partner)),
     Event::RequestReaches,
     Event::Give,
     Event::AnswerArrives,
@@ -50,7 +51,7 @@ impl System {
     /// The laptop has gathered from another dock.
     fn with_old() -> Self {
         let mut system = Self::fresh(Data::old());
-        while system.laptop.held().is_none() {
+        while system.laptop.held(Side::Partner).is_none() {
             EXCHANGE.iter().for_each(|event| {
                 system.take(event);
             });

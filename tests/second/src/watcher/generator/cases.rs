@@ -1,7 +1,6 @@
 //! The cases of 01 that are the laptop's: case L, and cases 9 to 12.
 
 use super::Generator;
-use crate::call::Call;
 use crate::messages::{ACK, NAK};
 use crate::pages::page;
 
@@ -12,10 +11,7 @@ impl Generator {
         self.page(&[0xFF01_0000]);
         self.next();
         self.answer(ACK, &[0x0000_0405]);
-        self.push(Call::Enter {
-            svid: 0xFF01,
-            position: 1,
-        });
+        self.enter(0xFF01, 1);
         self.acknowledge();
         self.open();
         self.page(&[0x0001_0000, 0x0002_0000]);

@@ -31,7 +31,7 @@ impl Generator {
     pub(super) fn go_on(&mut self) {
         if self.run.laptop().awaited().is_none() {
             self.drawn_call();
-        } else if self.asked.command == SVIDS {
+        } else if self.asked[self.side].command == SVIDS {
             self.drawn_page();
         } else {
             let kind = self.random.one_of(&ANSWERS);
@@ -42,7 +42,7 @@ impl Generator {
 
     /// Mostly a next; with a held catalogue and no candidate most often an enter or exit.
     fn drawn_call(&mut self) {
-        let has_candidate = *self.run.laptop().candidate() != Candidate::None;
+        let has_candidate = *self.run.laptop().candidate(self.side) != Candidate::None;
         if has_candidate || self.random.below(4) == 0 {
             self.next();
         } else {
@@ -52,7 +52,7 @@ impl Generator {
 
     /// A repeat of the last page, a full page, or one that ends the list.
     fn drawn_page(&mut self) {
-        let gathered = match self.run.laptop().candidate() {
+        let gathered = match self.run.laptop().candidate(self.side) {
             Candidate::ListOpen(catalogue) => catalogue.svids.clone(),
             _ => Vec::new(),
         };
@@ -87,16 +87,16 @@ impl Generator {
         let svid = self.random.one_of(&svids);
         let position = self.random.byte() & LAST_POSITION;
         if self.random.below(2) == 0 {
-            self.push(Call::Enter { svid, position });
+            self.enter(svid, position);
         } else {
-            self.push(Call::Exit { svid, position });
+            self.exit(svid, position);
         }
     }
 
     fn drawn_asking(&mut self) {
         match self.random.below(3) {
-            0 => self.push(Call::StartOver),
-            1 => self.push(Call::Drop),
+            0 => self.push(Call::StartOver(self.side)),
+            1 => self.push(Call::Drop(self.side)),
             _ => self.next(),
         };
     }
@@ -105,6 +105,7 @@ impl Generator {
     fn drawn_words(&mut self) {
         let count = 1 + self.random.below(MOST_OBJECTS);
         let objects = self.random.objects(count);
-        self.push(Event::Message { objects });
+        let side = self.side;
+        self.push(Event::Message { side, objects });
     }
 }

@@ -54,7 +54,8 @@ impl Generator {
 
     pub(super) fn drawn_message(&mut self, header: Header, count: usize) -> Event {
         let objects = [&[header.word()][..], &self.random.objects(count)].concat();
-        Event::Message { objects }
+        let side = self.side;
+        Event::Message { side, objects }
     }
 
     /// With bit 5 set, Attention in each situation, and good answers of every type to each request.

@@ -15,17 +15,25 @@ impl Generator {
         self.hold(&modes);
         for &svid in &svids {
             for position in POSITIONS {
-                self.every_end_of(Call::Enter { svid, position });
+                self.every_end_of(Call::Enter {
+                    side: self.side,
+                    svid,
+                    position,
+                });
             }
             self.next();
         }
-        self.push(Call::StartOver);
+        self.push(Call::StartOver(self.side));
         for &svid in &svids {
             for position in POSITIONS
                 .into_iter()
                 .filter(|&other| other != LAST_POSITION)
             {
-                self.every_end_of(Call::Exit { svid, position });
+                self.every_end_of(Call::Exit {
+                    side: self.side,
+                    svid,
+                    position,
+                });
             }
         }
         for &svid in &svids {
@@ -36,12 +44,15 @@ impl Generator {
     /// Enters every mode and leaves them all with position 7.
     fn all_at_once(&mut self, svid: u16) {
         for position in 1..=LAST_MODE_POSITION {
-            if self.push(Call::Enter { svid, position }).sent.is_some() {
+            if self.enter(svid, position).sent.is_some() {
                 self.acknowledge();
             }
         }
-        let position = LAST_POSITION;
-        self.every_end_of(Call::Exit { svid, position });
+        self.every_end_of(Call::Exit {
+            side: self.side,
+            svid,
+            position: LAST_POSITION,
+        });
     }
 
     /// The call with every end of its wait, last an ACK, after which it comes once more.

@@ -37,7 +37,7 @@ impl Generator {
     fn few_events(&mut self) {
         let situations = [&IDLE[..], &WAITING].concat();
         let situation = self.random.one_of(&situations);
-        let events = [all_calls(), self.all_messages()].concat();
+        let events = [all_calls(self.side), self.all_messages()].concat();
         self.set_up(situation);
         for _ in 0..self.random.below(7) + 2 {
             let event = events[self.random.below(events.len())].clone();
@@ -51,7 +51,7 @@ impl Generator {
     fn late_answer(&mut self) {
         let situation = self.random.one_of(&WAITING);
         self.set_up(situation);
-        let timer = Call::timer(self.asked.command);
+        let timer = Call::timer(self.asked[self.side].command);
         let drawn = self.random.one_of(&TIMERS);
         let end = self.random.one_of(&[timer, Call::ProtocolError, drawn]);
         self.push(end);
@@ -108,9 +108,7 @@ impl Generator {
                 _ => self.go_on(),
             }
         }
-        let svid = svids[0];
-        let position = LAST_POSITION;
-        self.push(Call::Exit { svid, position });
+        self.exit(svids[0], LAST_POSITION);
         self.acknowledge();
     }
 

@@ -4,6 +4,7 @@ use super::{Event, Generator};
 use crate::call::Call;
 use crate::messages::LAST_POSITION;
 use crate::pages::PAGE_SVIDS;
+use crate::side::Side;
 
 pub const FIRST: u16 = 0xFF01;
 pub const SECOND: u16 = 0x8087;
@@ -53,7 +54,6 @@ pub const TIMERS: [Call; 4] = [
     Call::ExitTimer,
     Call::ProtocolError,
 ];
-const ASKING: [Call; 3] = [Call::Next, Call::StartOver, Call::Drop];
 const NAMED_MODES: [(u16, u8); 8] = [
     (FIRST, 1),
     (FIRST, 2),
@@ -68,7 +68,7 @@ const NAMED_MODES: [(u16, u8); 8] = [
 impl Generator {
     /// Every event but a message, in every situation.
     pub(super) fn calls_everywhere(&mut self) {
-        let calls = all_calls();
+        let calls = all_calls(self.side);
         for situation in IDLE.into_iter().chain(WAITING) {
             self.everything_in(situation, &calls);
         }
@@ -127,27 +127,32 @@ impl Generator {
         if self.held_svids() != LISTED {
             self.hold(&[(FIRST, 2), (SECOND, 1)]);
         }
-        self.push(Call::Enter {
-            svid: FIRST,
-            position: 1,
-        });
+        self.enter(FIRST, 1);
     }
 
     fn await_exit(&mut self, position: u8) {
         self.set_up(Situation::Entered);
-        let svid = FIRST;
-        self.push(Call::Exit { svid, position });
+        self.exit(FIRST, position);
     }
 }
 
-/// Every event but a message.
-pub fn all_calls() -> Vec<Event> {
+/// Every event but a message, the owner's calls for one side.
+pub fn all_calls(side: Side) -> Vec<Event> {
+    let asking = [Call::Next(side), Call::StartOver(side), Call::Drop(side)];
     let modes = NAMED_MODES.iter().flat_map(|&(svid, position)| {
         [
-            Call::Enter { svid, position },
-            Call::Exit { svid, position },
+            Call::Enter {
+                side,
+                svid,
+                position,
+            },
+            Call::Exit {
+                side,
+                svid,
+                position,
+            },
         ]
     });
-    let calls = ASKING.into_iter().chain(TIMERS).chain(modes);
+    let calls = asking.into_iter().chain(TIMERS).chain(modes);
     calls.map(Event::from).collect()
 }

@@ -1,7 +1,6 @@
 //! Enter and exit before there is a held catalogue.
 
 use super::Generator;
-use crate::call::Call;
 
 const POSITIONS: [u8; 5] = [0, 1, 6, 7, 255];
 
@@ -20,8 +19,8 @@ impl Generator {
     fn enter_and_exit(&mut self) {
         for svid in [0, 1] {
             for position in POSITIONS {
-                self.push(Call::Enter { svid, position });
-                self.push(Call::Exit { svid, position });
+                self.enter(svid, position);
+                self.exit(svid, position);
             }
         }
     }

@@ -26,5 +26,6 @@ pub mod refusals;
 pub mod side;
 pub mod steps;
 pub mod stream;
+mod two_sides;
 pub mod vectors;
 pub mod watcher;

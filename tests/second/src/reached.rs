@@ -6,13 +6,14 @@ use crate::laptop::MOST_PAGES;
 use crate::messages::{ENTER, EXIT, IDENTITY, LAST_MODE_POSITION, LAST_POSITION, MODES, SVIDS};
 use crate::pages::MOST_SVIDS;
 use crate::refusals::{NOT_WHOLE_OBJECTS, NO_END, WITHDRAWN};
+use crate::side::Side;
 use std::fmt;
 
-/// Every candidate and the commands that are awaited with it; 0 is nothing.
+/// Every candidate and the commands that are awaited from its side with it.
 const STATES: [(&str, &[u8]); 3] = [
-    (NO_CANDIDATE, &[0, IDENTITY, ENTER, EXIT]),
-    (LIST_OPEN, &[0, SVIDS]),
-    (LIST_DONE, &[0, MODES]),
+    (NO_CANDIDATE, &[IDENTITY, ENTER, EXIT]),
+    (LIST_OPEN, &[SVIDS]),
+    (LIST_DONE, &[MODES]),
 ];
 /// How a heading can begin.
 const HEADINGS: [&[u8]; 2] = [b"event ", b"stream event "];
@@ -20,6 +21,14 @@ const HEADINGS: [&[u8]; 2] = [b"event ", b"stream event "];
 #[derive(Default)]
 pub struct Reached {
     counts: Counts,
+}
+
+/// What a line's side awaits.
+#[derive(Clone, Copy)]
+enum Wait {
+    Nothing,
+    Command(u8),
+    OfOtherSide,
 }
 
 /// The fields of a line, by the columns of its heading.
@@ -104,27 +113,38 @@ pub fn refusals() -> Vec<String> {
 
 /// The names of all states, lists, page counts and positions.
 pub fn beside_refusals() -> Vec<String> {
-    let states = STATES.iter().flat_map(|&(candidate, commands)| {
-        let commands = commands.iter();
-        commands.map(move |&command| state(candidate, command))
-    });
+    let states = Side::BOTH.into_iter().flat_map(states);
     let lists = (0..=MOST_SVIDS).map(list);
     let counts = [MOST_PAGES - 1, MOST_PAGES].map(pages);
-    let enters = (1..=LAST_MODE_POSITION).map(|position| mode(ENTER, position));
-    let exits = (1..=LAST_POSITION).map(|position| mode(EXIT, position));
-    let first = states.chain(lists).chain(counts);
-    first.chain(enters).chain(exits).collect()
+    let modes = Side::BOTH.into_iter().flat_map(|side| {
+        let enters = (1..=LAST_MODE_POSITION).map(move |position| mode(side, ENTER, position));
+        let exits = (1..=LAST_POSITION).map(move |position| mode(side, EXIT, position));
+        enters.chain(exits)
+    });
+    states.chain(lists).chain(counts).chain(modes).collect()
+}
+
+fn states(side: Side) -> impl Iterator<Item = String> {
+    STATES.iter().flat_map(move |&(candidate, commands)| {
+        let commands = commands.iter().map(|&command| Wait::Command(command));
+        let waits = [Wait::Nothing, Wait::OfOtherSide].into_iter();
+        waits
+            .chain(commands)
+            .map(move |wait| state(side, candidate, wait))
+    })
 }
 
 fn refusal(number: usize) -> String {
     format!("refusal {number}")
 }
 
-fn state(candidate: &str, command: u8) -> String {
-    match command {
-        0 => format!("candidate {candidate} awaiting nothing"),
-        _ => format!("candidate {candidate} awaiting command {command}"),
-    }
+fn state(side: impl fmt::Display, candidate: &str, wait: Wait) -> String {
+    let wait = match wait {
+        Wait::Nothing => "awaiting nothing".to_string(),
+        Wait::Command(command) => format!("awaiting command {command}"),
+        Wait::OfOtherSide => "while the other side waits".to_string(),
+    };
+    format!("candidate {candidate} of the {side} {wait}")
 }
 
 fn list(length: usize) -> String {
@@ -135,31 +155,36 @@ fn pages(count: usize) -> String {
     format!("page count {count}")
 }
 
-fn mode(command: u8, position: u8) -> String {
+fn mode(side: impl fmt::Display, command: u8, position: u8) -> String {
     match command {
-        ENTER => format!("enter sent at position {position}"),
-        _ => format!("exit sent at position {position}"),
+        ENTER => format!("enter sent to the {side} at position {position}"),
+        _ => format!("exit sent to the {side} at position {position}"),
     }
 }
 
 fn state_of(line: &Line) -> Option<String> {
+    let side = line.field("side")?;
     let candidate = line.field("candidate")?.split(':').next()?;
-    let command = match line.field("awaited")? {
-        NOTHING => 0,
-        awaited => awaited.split(':').nth(1)?.parse().ok()?,
+    let awaited = line.field("awaited")?;
+    let mut parts = awaited.split(':');
+    let wait = match parts.next()? {
+        NOTHING => Wait::Nothing,
+        waiting if waiting == side => Wait::Command(parts.nth(1)?.parse().ok()?),
+        _ => Wait::OfOtherSide,
     };
-    Some(state(candidate, command))
+    Some(state(side, candidate, wait))
 }
 
-/// The position of an enter or exit that was sent.
+/// The side and position of an enter or exit that was sent.
 fn mode_of(line: &Line) -> Option<String> {
     if line.field("sent")? == NOTHING {
         return None;
     }
-    let mut numbers = line.field("awaited")?.split(':').skip(1);
+    let mut numbers = line.field("awaited")?.split(':').skip(2);
     let command = numbers.next()?.parse().ok()?;
     let position = numbers.next()?.parse().ok()?;
+    let side = line.field("side")?;
     [ENTER, EXIT]
         .contains(&command)
-        .then(|| mode(command, position))
+        .then(|| mode(side, command, position))
 }

@@ -11,13 +11,15 @@ use second::side::Side;
 use std::collections::BTreeSet;
 
 const SEEDS: [u64; 4] = [0, 1, 2, u64::MAX];
-const HEADING: &str = "stream event refusal sent output told awaited candidate pages held \
-    candidate_run held_run catalogue report\n";
+const HEADING: &str = "stream event side refusal sent output told awaited candidate pages held \
+    candidate_run held_run catalogue report other_candidate other_pages other_held\n";
 const KNOWN: [u8; 23] = [
     0x01, 0x40, 0x41, 0x42, 0x43, 0x44, 0x45, 0x46, 0x47, 0x48, 0x49, 0x4A, 0x4B, 0x4C, 0x81, 0xC0,
     0xC1, 0xC2, 0xC7, 0xC8, 0xC9, 0xCA, 0xCB,
 ];
-/// Both runs as they are at the start, and then with case L's mode.
+/// What the line of any event tells of a side of which nothing has come.
+const OTHER: &str = "none 0 -";
+/// Both runs as they are at the start, and then with case L's mode. Sides stand in no such line.
 const CASE_L: &str = "\
     1 0 01A000FF EE763419 - FF00:1:0 none 0 - 5F29F345 5F29F345 - -\n\
     2 0 - - - - open:0 0 - 5F29F345 5F29F345 - -\n\
@@ -50,20 +52,33 @@ fn stream(events: &[Event]) -> Vec<u8> {
     stream
 }
 
-/// The heading, and these lines: those of an event with the number of their stream, 1, before it.
-fn printed_lines(lines: &[&str]) -> String {
-    [HEADING, &in_stream(1, &lines.concat())].concat()
+/// The heading, and these lines of a side in stream 1.
+fn printed_lines(side: Side, lines: &[&str]) -> String {
+    [HEADING, &in_stream(1, side, &lines.concat())].concat()
 }
 
-fn in_stream(number: usize, lines: &str) -> String {
-    let lines = lines.split_inclusive('\n');
-    let lines = lines.map(
-        |line| match line.starts_with(|first: char| first.is_ascii_digit()) {
-            true => format!("{number} {line}"),
-            false => line.to_string(),
-        },
-    );
+/// The lines of events with the number of their stream and their side; nothing comes of the other.
+fn in_stream(number: usize, side: Side, lines: &str) -> String {
+    let lines = lines.lines().map(|line| match line.split_once(' ') {
+        Some((event, rest)) if event.parse::<usize>().is_ok() => {
+            let mut fields: Vec<String> = rest.split(' ').map(str::to_string).collect();
+            if fields[4] != "-" {
+                fields[4] = format!("{side}:{}", fields[4]);
+            }
+            format!("{number} {event} {side} {} {OTHER}\n", fields.join(" "))
+        }
+        _ => format!("{line}\n"),
+    });
     lines.collect()
+}
+
+/// The event for a side; timers, the protocol error and a new stream say none.
+fn of(side: Side, event: &[u8]) -> Vec<u8> {
+    let mut event = event.to_vec();
+    if side == Side::Cable && !matches!(event[0], 0x43..=0x46 | 0x4C) {
+        event[0] += 0x80;
+    }
+    event
 }
 
 /// A message event, as bytes.
@@ -83,31 +98,35 @@ fn lengths(output: u8, candidate: u16, held: u16) -> Vec<u8> {
     [&[0x4B, output][..], &runs].concat()
 }
 
-fn case_l() -> Vec<u8> {
-    [
+fn case_l(side: Side) -> Vec<u8> {
+    let events = [
         NEXT.to_vec(),
         message(&[0xFF00_A041, 1, 2, 3]),
         NEXT.to_vec(),
         message(&[0xFF00_A042, 0xFF01_0000]),
         NEXT.to_vec(),
         message(&[0xFF01_A043, 0x0000_0405]),
-    ]
-    .concat()
+    ];
+    events.map(|event| of(side, &event)).concat()
 }
 
-/// The answers to case L and these events after it.
-fn after_case_l(events: &[&[u8]]) -> String {
-    answers(&[case_l(), events.concat()].concat())
+/// The answers to case L of each side and these events after it are its lines and these.
+fn assert_after_case_l(events: &[&[u8]], lines: &str) {
+    for side in Side::BOTH {
+        let events: Vec<Vec<u8>> = events.iter().map(|event| of(side, event)).collect();
+        let printed = answers(&[case_l(side), events.concat()].concat());
+        assert_eq!(printed, printed_lines(side, &[CASE_L, lines]));
+    }
 }
 
 #[test]
 fn case_l_and_its_22_catalogue_bytes() {
-    let printed = after_case_l(&[
+    let events: &[&[u8]] = &[
         &write_catalogue(22),
         &write_catalogue(24),
         &write_catalogue(21),
         &write_catalogue(0),
-    ]);
+    ];
     let lines = format!(
         "7 0 - 2ED34F69 - - {HELD} 22:2ED34F69 -\n\
         8 0 - 779FCB71 - - {HELD} 22:2ED34F69 -\n\
@@ -115,12 +134,12 @@ fn case_l_and_its_22_catalogue_bytes() {
         10 11 - 811C9DC5 - - {HELD} - -\n\
         end 10 events\n"
     );
-    assert_eq!(printed, printed_lines(&[CASE_L, &lines]));
+    assert_after_case_l(events, &lines);
 }
 
 #[test]
 fn enter_and_exit_are_sent_told_and_reported() {
-    let printed = after_case_l(&[
+    let events: &[&[u8]] = &[
         &ENTER,
         &ENTRY_TIMER,
         &ENTER,
@@ -133,7 +152,7 @@ fn enter_and_exit_are_sent_told_and_reported() {
         &EXIT_ALL,
         &PROTOCOL_ERROR,
         &NEXT,
-    ]);
+    ];
     let lines = format!(
         "7 0 04A101FF 5CCE87A6 - FF01:4:1 {HELD} - -\n\
         8 0 - - timer:FF01:4:1 - {HELD} - -\n\
@@ -149,22 +168,24 @@ fn enter_and_exit_are_sent_told_and_reported() {
         18 13 - 635B1845 - - {HELD} - -\n\
         end 18 events\n"
     );
-    assert_eq!(printed, printed_lines(&[CASE_L, &lines]));
+    assert_after_case_l(events, &lines);
 }
 
 #[test]
 fn attention_is_told_with_its_object_or_a_zero() {
-    let stream = [
+    let events = [
         message(&[0xFF01_A206]),
         message(&[0x8087_A606, 0x1234_ABCD]),
-    ]
-    .concat();
+    ];
     let lines = format!(
         "1 0 - - attention:FF01:2:0:00000000 - {FRESH} - -\n\
         2 0 - - attention:8087:6:1:1234ABCD - {FRESH} - -\n\
         end 2 events\n"
     );
-    assert_eq!(answers(&stream), printed_lines(&[&lines]));
+    for side in Side::BOTH {
+        let stream = events.clone().map(|event| of(side, &event)).concat();
+        assert_eq!(answers(&stream), printed_lines(side, &[&lines]));
+    }
 }
 
 #[test]
@@ -180,12 +201,12 @@ fn messages_have_any_length_up_to_40_and_a_greater_length_counts_as_40() {
         .collect();
     let next = "9 0 01A000FF EE763419 - FF00:1:0 none 0 - 5F29F345 5F29F345 - -\nend 9 events\n";
     let lines = [refused.concat(), next.to_string()].concat();
-    assert_eq!(answers(&stream), printed_lines(&[&lines]));
+    assert_eq!(answers(&stream), printed_lines(Side::Partner, &[&lines]));
 }
 
 #[test]
 fn short_runs_and_buffers_are_refused_11() {
-    let printed = after_case_l(&[
+    let events: &[&[u8]] = &[
         &lengths(3, 440, 440),
         &NEXT,
         &DROP,
@@ -196,11 +217,10 @@ fn short_runs_and_buffers_are_refused_11() {
         &DROP,
         &[0x01, 0],
         &write_catalogue(22),
-        &ENTRY_TIMER,
         &REPORT,
         &lengths(4, 432, 432),
         &ENTER,
-    ]);
+    ];
     let lines = format!(
         "7 0 - - - - {HELD} - -\n\
         8 11 - 1D1DA4D9 - - {HELD} - -\n\
@@ -212,24 +232,23 @@ fn short_runs_and_buffers_are_refused_11() {
         14 11 - - - - {HELD} - -\n\
         15 11 - - - - {HELD} - -\n\
         16 11 - 8771A69D - - {HELD} - -\n\
-        17 9 - - - - {HELD} - -\n\
-        18 0 - - - - {HELD} - 0\n\
-        19 0 - - - - {HELD} - -\n\
-        20 0 04A101FF B07E099E - FF01:4:1 {HELD} - -\n\
-        end 20 events\n"
+        17 0 - - - - {HELD} - 0\n\
+        18 0 - - - - {HELD} - -\n\
+        19 0 04A101FF B07E099E - FF01:4:1 {HELD} - -\n\
+        end 19 events\n"
     );
-    assert_eq!(printed, printed_lines(&[CASE_L, &lines]));
+    assert_after_case_l(events, &lines);
 }
 
 #[test]
 fn greater_lengths_count_as_the_greatest() {
-    let printed = after_case_l(&[
+    let events: &[&[u8]] = &[
         &lengths(255, 441, 0xFFFF),
         &write_catalogue(2500),
         &write_catalogue(2501),
         &write_catalogue(0xFFFF),
         &NEXT,
-    ]);
+    ];
     let lines = format!(
         "7 0 - - - - {HELD} - -\n\
         8 0 - DF59CE01 - - {HELD} 22:2ED34F69 -\n\
@@ -238,12 +257,15 @@ fn greater_lengths_count_as_the_greatest() {
         11 0 01A000FF 458B2B4D - FF00:1:0 none 0 1 0FDC1314 0FDC1314 - -\n\
         end 11 events\n"
     );
-    assert_eq!(printed, printed_lines(&[CASE_L, &lines]));
+    assert_after_case_l(events, &lines);
 }
 
 #[test]
 fn an_empty_stream_ends_at_once() {
-    assert_eq!(answers(&[]), printed_lines(&["end 0 events\n"]));
+    assert_eq!(
+        answers(&[]),
+        printed_lines(Side::Partner, &["end 0 events\n"])
+    );
 }
 
 #[test]
@@ -251,7 +273,7 @@ fn any_other_kind_is_unknown_and_stops_the_answers() {
     for kind in (0..=u8::MAX).filter(|kind| !KNOWN.contains(kind)) {
         let printed = answers(&[&DROP[..], &[kind], &NEXT].concat());
         let lines = format!("1 0 - - - - {FRESH} - -\nunknown kind after 1 events\n");
-        assert_eq!(printed, printed_lines(&[&lines]));
+        assert_eq!(printed, printed_lines(Side::Partner, &[&lines]));
     }
 }
 
@@ -266,11 +288,12 @@ fn an_event_cut_anywhere_stops_the_answers() {
         write_catalogue(22),
         lengths(32, 440, 440),
     ];
-    for event in events {
+    let twins = events.clone().map(|event| of(Side::Cable, &event));
+    for event in events.into_iter().chain(twins) {
         for length in 1..event.len() {
             let printed = answers(&[&DROP, &event[..length]].concat());
             let lines = format!("1 0 - - - - {FRESH} - -\ncut after 1 events\n");
-            assert_eq!(printed, printed_lines(&[&lines]));
+            assert_eq!(printed, printed_lines(Side::Partner, &[&lines]));
         }
     }
 }
@@ -278,16 +301,24 @@ fn an_event_cut_anywhere_stops_the_answers() {
 #[test]
 fn the_input_counts_as_ended_after_a_million() {
     let printed = answers(&[&DROP.repeat(1_000_000)[..], &[0xFF]].concat());
-    let last = format!("\n1 1000000 0 - - - - {FRESH} - -\nend 1000000 events\n");
+    let last = format!("\n1 1000000 partner 0 - - - - {FRESH} - - {OTHER}\nend 1000000 events\n");
     assert!(printed.ends_with(&last));
 }
 
 #[test]
 fn a_new_stream_has_a_fresh_laptop_and_counts_its_events_anew() {
     let short = lengths(3, 0, 0);
-    let streams = [&case_l()[..], &short, &NEW_STREAM, &NEW_STREAM, &case_l()].concat();
+    let (partner, cable) = (Side::Partner, Side::Cable);
+    let first = [
+        case_l(partner),
+        short,
+        NEW_STREAM.to_vec(),
+        NEW_STREAM.to_vec(),
+    ]
+    .concat();
+    let streams = [first, case_l(cable)].concat();
     let first = format!("{CASE_L}7 0 - - - - {HELD} - -\n");
-    let lines = [in_stream(1, &first), in_stream(3, CASE_L)].concat();
+    let lines = [in_stream(1, partner, &first), in_stream(3, cable, CASE_L)].concat();
     let expected = [HEADING, &lines, "end 13 events\n"].concat();
     assert_eq!(answers(&streams), expected);
 }
@@ -314,11 +345,15 @@ fn the_input_counts_as_ended_after_a_million_events_or_streams() {
         &[0xFF],
     ]
     .concat();
-    let last = format!("\n2 1000000 0 - - - - {FRESH} - -\nend 1000000 events\n");
+    let last = format!("\n2 1000000 partner 0 - - - - {FRESH} - - {OTHER}\nend 1000000 events\n");
     assert!(answers(&events).ends_with(&last));
     let streams = [&NEW_STREAM.repeat(999_999)[..], &DROP, &NEW_STREAM, &DROP].concat();
-    let lines = format!("1000000 1 0 - - - - {FRESH} - -\nend 1 events\n");
+    let lines = format!("1000000 1 partner 0 - - - - {FRESH} - - {OTHER}\nend 1 events\n");
     assert_eq!(answers(&streams), [HEADING, &lines].concat());
+}
+
+fn events_of(streams: &[Vec<Event>]) -> usize {
+    streams.iter().map(Vec::len).sum()
 }
 
 #[test]
@@ -328,13 +363,17 @@ fn stored_streams_are_many_and_leave_nothing_out() {
     let mut bytes = Vec::new();
     put_streams(&streams, &mut bytes).unwrap();
     let printed = answers(&bytes);
-    assert!(printed.len() <= 5_500_000);
+    assert!(events_of(&streams) < 100_000 && printed.len() <= 8_000_000);
     let mut reached = Reached::default();
-    let events: usize = streams.iter().map(Vec::len).sum();
-    assert_eq!(reached.count_lines(&printed), events);
+    assert_eq!(reached.count_lines(&printed), events_of(&streams));
     let mut tally = Tally::default();
     streams.iter().for_each(|events| tally.count_stream(events));
-    let missing = [reached.missing(&expected()), tally.missing()].concat();
+    let missing = [
+        reached.missing(&expected()),
+        tally.missing(),
+        tally.missing_lists(),
+    ]
+    .concat();
     assert_eq!(missing, Vec::<String>::new());
 }
 
@@ -379,6 +418,14 @@ fn the_same_seed_gives_the_same_events_and_another_does_not() {
     assert_ne!(generate(5), generate(6));
 }
 
+/// The side that an event concerns, and whether the other waits. A timer concerns the side that
+/// waits, the partner if none does.
+fn concerned(event: &Event, laptop: &Laptop) -> (Side, bool) {
+    let waiting = laptop.awaited().map(|awaited| awaited.side);
+    let side = event.side().or(waiting).unwrap_or(Side::Partner);
+    (side, waiting == Some(side.other()))
+}
+
 /// The command awaited, 0 if none.
 fn wait(laptop: &Laptop) -> u8 {
     laptop
@@ -400,12 +447,18 @@ fn sort(event: &Event) -> &'static str {
     }
 }
 
+/// A sort of event, the side it concerns, whether the other waits, for which command, and a refusal.
+type Outcome = (&'static str, Side, bool, u8, u8);
+
 /// Every refusal that a sort of event can get in a wait.
-fn reachable() -> BTreeSet<(&'static str, u8, u8)> {
+fn reachable() -> BTreeSet<Outcome> {
     let mut reachable = BTreeSet::new();
     let mut put = |sort, waits: &[u8], refusals: &[u8]| {
         for &wait in waits {
-            reachable.extend(refusals.iter().map(|&refusal| (sort, wait, refusal)));
+            for side in Side::BOTH {
+                let reached = |&refusal| (sort, side, false, wait, refusal);
+                reachable.extend(refusals.iter().map(reached));
+            }
         }
     };
     let all = [0, 1, 2, 3, 4, 5];
@@ -426,6 +479,21 @@ fn reachable() -> BTreeSet<(&'static str, u8, u8)> {
     put("lengths", &all, &[0]);
     put("write", &all, &[0, 11]);
     put("write", &[0, 1, 2, 3], &[12]);
+    for sort in ["timer", "error"] {
+        reachable.remove(&(sort, Side::Cable, false, 0, 9));
+    }
+    for wait in 1..=5 {
+        for side in Side::BOTH {
+            let mut put = |sort, refusals: &[u8]| {
+                let reached = |&refusal| (sort, side, true, wait, refusal);
+                reachable.extend(refusals.iter().map(reached));
+            };
+            put("message", &[0, 1, 2, 3, 5, 6, 11]);
+            for sort in ["asking", "drop", "mode"] {
+                put(sort, &[7, 11]);
+            }
+        }
+    }
     reachable
 }
 
@@ -435,8 +503,13 @@ fn generated_events_get_every_refusal_they_can_and_no_other() {
         let mut run = Run::default();
         let mut reached = BTreeSet::new();
         for event in generate(seed) {
+            let (side, other_waits) = concerned(&event, run.laptop());
             let wait = wait(run.laptop());
-            reached.insert((sort(&event), wait, run.take(&event).refusal));
+            let refusal = run.take(&event).refusal;
+            let reading = matches!(sort(&event), "report" | "lengths" | "write");
+            if !(reading && other_waits) {
+                reached.insert((sort(&event), side, other_waits, wait, refusal));
+            }
         }
         assert_eq!(reached, reachable());
     }
@@ -461,11 +534,13 @@ fn a_refusal_sends_writes_and_tells_nothing_and_leaves_all_alone_but_for_6_8_and
         assert_eq!(Side::BOTH.map(|side| run.runs(side).clone()), runs);
         if *run.laptop() != before {
             assert!([6, 8, 14].contains(&outcome.refusal));
-            assert_eq!(*run.laptop().candidate(Side::Partner), Candidate::None);
-            assert_eq!(
-                (wait(run.laptop()), run.laptop().held(Side::Partner)),
-                (0, before.held(Side::Partner))
-            );
+            let side = event.side().unwrap();
+            let laptop = run.laptop();
+            assert_eq!(*laptop.candidate(side), Candidate::None);
+            assert_eq!(laptop.awaited_from(side), None);
+            for side in Side::BOTH {
+                assert_eq!(laptop.held(side), before.held(side));
+            }
         }
     }
 }

@@ -2,15 +2,15 @@
 
 use second::reached::{are_lines, beside_refusals, refusals, Reached};
 
-const LAPTOP: &str = "stream event refusal sent output told awaited candidate pages held \
-    candidate_run held_run catalogue report\n\
-    1 1 0 01A000FF EE763419 - FF00:1:0 none 0 - 5F29F345 5F29F345 - -\n\
-    1 2 0 - - - - open:0 0 - 5F29F345 5F29F345 - -\n\
-    1 3 11 - - - - open:0 199 - 5F29F345 5F29F345 - -\n\
-    1 4 0 - - - FF01:3:0 done:2:1 200 0 5F29F345 5F29F345 - -\n\
-    2 1 0 04A301FF 5CCE87A6 - FF01:4:3 none 1 72 0FDC1314 0FDC1314 - -\n\
-    2 2 7 - - - FF01:4:3 none 1 72 0FDC1314 0FDC1314 - -\n\
-    2 3 0 05A701FF 5CCE87A6 - FF01:5:7 none 1 72 0FDC1314 0FDC1314 - -\n\
+const LAPTOP: &str = "stream event side refusal sent output told awaited candidate pages held \
+    candidate_run held_run catalogue report other_candidate other_pages other_held\n\
+    1 1 partner 0 01A000FF EE763419 - partner:FF00:1:0 none 0 - 5F29F345 5F29F345 - - none 0 -\n\
+    1 2 partner 0 - - - - open:0 0 - 5F29F345 5F29F345 - - none 0 -\n\
+    1 3 partner 11 - - - - open:0 199 - 5F29F345 5F29F345 - - none 0 -\n\
+    1 4 cable 0 - - - cable:FF01:3:0 done:2:1 200 0 5F29F345 5F29F345 - - open:0 199 -\n\
+    2 1 cable 0 04A301FF 5CCE87A6 - cable:FF01:4:3 none 1 72 0FDC1314 0FDC1314 - - none 0 -\n\
+    2 2 partner 7 - - - cable:FF01:4:3 none 0 - 5F29F345 5F29F345 - - none 1 72\n\
+    2 3 partner 0 05A701FF 5CCE87A6 - partner:FF01:5:7 none 1 72 0FDC1314 0FDC1314 - - none 0 -\n\
     unknown kind after 7 events\n";
 const WATCHER: &str = "event refusal sent pages held\n\
     1 13 - 200 5\n\
@@ -36,7 +36,7 @@ fn reached(texts: &[&str]) -> Reached {
 fn nothing_counted_is_everything_missing() {
     let nothing = reached(&[]);
     assert_eq!(nothing.missing(&refusals()).len(), 13);
-    let states_lists_pages_positions = 8 + 73 + 2 + 13;
+    let states_lists_pages_positions = 2 * (8 + 3) + 73 + 2 + 2 * 13;
     assert_eq!(
         nothing.missing(&beside_refusals()).len(),
         states_lists_pages_positions
@@ -59,18 +59,25 @@ fn laptop_lines_tell_refusals_states_lists_pages_and_positions() {
         ("refusal 11", 1),
         ("refusal 7", 1),
         ("refusal 13", 0),
-        ("candidate none awaiting command 1", 1),
-        ("candidate open awaiting nothing", 2),
-        ("candidate done awaiting command 3", 1),
-        ("candidate none awaiting command 4", 2),
-        ("candidate none awaiting nothing", 0),
+        ("candidate none of the partner awaiting command 1", 1),
+        ("candidate open of the partner awaiting nothing", 2),
+        ("candidate done of the cable awaiting command 3", 1),
+        ("candidate none of the cable awaiting command 4", 1),
+        ("candidate none of the partner awaiting command 4", 0),
+        (
+            "candidate none of the partner while the other side waits",
+            1,
+        ),
+        ("candidate none of the cable while the other side waits", 0),
+        ("candidate none of the partner awaiting nothing", 0),
         ("held list of 0", 1),
-        ("held list of 72", 3),
+        ("held list of 72", 2),
         ("page count 199", 1),
         ("page count 200", 1),
-        ("enter sent at position 3", 1),
-        ("exit sent at position 7", 1),
-        ("exit sent at position 3", 0),
+        ("enter sent to the cable at position 3", 1),
+        ("enter sent to the partner at position 3", 0),
+        ("exit sent to the partner at position 7", 1),
+        ("exit sent to the partner at position 3", 0),
     ];
     for (name, count) in expected {
         assert_eq!(counted.count_of(name), count, "{name}");

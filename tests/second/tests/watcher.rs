@@ -201,7 +201,7 @@ fn generated_events_leave_nothing_out_and_come_back_from_bytes() {
             assert_eq!(Event::take(&mut input).ok().as_ref(), Some(event));
         }
         assert!(input.is_empty());
-        assert!(events.len() <= 21_000 && stream.len() <= 600_000);
+        assert!(events.len() <= 29_000 && stream.len() <= 600_000);
     }
 }
 
@@ -211,12 +211,23 @@ fn the_same_seed_gives_the_same_events_and_another_does_not() {
     assert_ne!(generate(5), generate(6));
 }
 
-/// Eleven refusals, 16 kinds in six waits, eight states, 16 requests, lists of 0 to 72, and with bit
-/// 5 Attention and three answers to each of five commands, but for the NAK to Modes.
+/// Eleven refusals; 28 kinds in eleven waits; of each side eight states and three candidates in five
+/// waits of the other, 16 requests, its lists, and with bit 5 Attention and three answers to each of
+/// five commands, but for the NAK to Modes; lists of 0 to 72; bit 5; of each side 14 things that two
+/// sides are needed for, and catalogues of both.
 #[test]
 fn nothing_counted_is_everything_missing() {
     let missing = Tally::default().missing().len();
-    assert_eq!(missing, 11 + 16 * 6 + 8 + 16 + 73 + 15);
+    let of_side = 8 + 3 * 5 + 16 + 1 + 15;
+    assert_eq!(missing, 11 + 28 * 11 + 2 * of_side + 73 + 1 + 2 * 14 + 1);
+}
+
+/// The side that an event concerns, and whether the other waits. A timer concerns the side that
+/// waits, the partner if none does.
+fn concerned(event: &Event, laptop: &Laptop) -> (Side, bool) {
+    let waiting = laptop.awaited().map(|awaited| awaited.side);
+    let side = event.side().or(waiting).unwrap_or(Side::Partner);
+    (side, waiting == Some(side.other()))
 }
 
 /// The command awaited, 0 if none.
@@ -226,12 +237,18 @@ fn wait(laptop: &Laptop) -> u8 {
         .map_or(0, |awaited| awaited.request.command)
 }
 
+/// A sort of event, the side it concerns, whether the other waits, for which command, and a refusal.
+type Reached = (&'static str, Side, bool, u8, u8);
+
 /// Every refusal that a sort of event can get in a wait.
-fn reachable() -> BTreeSet<(&'static str, u8, u8)> {
+fn reachable() -> BTreeSet<Reached> {
     let mut reachable = BTreeSet::new();
     let mut put = |sort, waits: &[u8], refusals: &[u8]| {
         for &wait in waits {
-            reachable.extend(refusals.iter().map(|&refusal| (sort, wait, refusal)));
+            for side in Side::BOTH {
+                let reached = |&refusal| (sort, side, false, wait, refusal);
+                reachable.extend(refusals.iter().map(reached));
+            }
         }
     };
     put("message", &[0, 1, 2, 3, 4, 5], &[0, 2, 3, 5, 6]);
@@ -251,6 +268,16 @@ fn reachable() -> BTreeSet<(&'static str, u8, u8)> {
     put("exit", &[0, 1, 2, 3, 4], &[9]);
     put("error", &[1, 2, 3, 4, 5], &[0]);
     put("error", &[0], &[9]);
+    for sort in ["response", "entry", "exit", "error"] {
+        reachable.remove(&(sort, Side::Cable, false, 0, 9));
+    }
+    for wait in 1..=5 {
+        for side in Side::BOTH {
+            let message = [0, 2, 3, 5, 6].map(|refusal| ("message", side, true, wait, refusal));
+            let calls = ["asking", "drop", "mode"].map(|sort| (sort, side, true, wait, 7));
+            reachable.extend(message.into_iter().chain(calls));
+        }
+    }
     reachable
 }
 
@@ -273,8 +300,10 @@ fn generated_events_get_every_refusal_they_can_and_no_other() {
         let mut run = Run::default();
         let mut reached = BTreeSet::new();
         for event in generate(seed) {
+            let (side, other_waits) = concerned(&event, run.laptop());
             let wait = wait(run.laptop());
-            reached.insert((sort(&event), wait, run.take(&event).refusal));
+            let refusal = run.take(&event).refusal;
+            reached.insert((sort(&event), side, other_waits, wait, refusal));
         }
         assert_eq!(reached, reachable());
     }
@@ -289,21 +318,22 @@ fn a_refusal_sends_nothing_and_leaves_the_laptop_alone_but_for_6_8_and_14() {
         let laptop = run.laptop();
         if outcome.refusal != 0 {
             assert_eq!(outcome.sent, None);
-            assert_eq!(laptop.held(Side::Partner), before.held(Side::Partner));
+            assert!(Side::BOTH
+                .iter()
+                .all(|&side| laptop.held(side) == before.held(side)));
         }
+        let (side, _) = concerned(&event, &before);
         match outcome.refusal {
-            0 => assert!(outcome.sent.is_none() || laptop.awaited().is_some()),
+            0 => assert!(outcome.sent.is_none() || laptop.awaited_from(side).is_some()),
             8 | 14 => {
-                assert_eq!(*laptop.candidate(Side::Partner), Candidate::None);
+                assert_eq!(*laptop.candidate(side), Candidate::None);
                 assert_eq!(wait(laptop), 0);
             }
             6 if *laptop != before => {
-                assert!(matches!(
-                    before.candidate(Side::Partner),
-                    Candidate::ListOpen(_)
-                ));
-                assert_eq!(*laptop.candidate(Side::Partner), Candidate::None);
-                assert_eq!(wait(&before), 0);
+                assert!(matches!(before.candidate(side), Candidate::ListOpen(_)));
+                assert_eq!(*laptop.candidate(side), Candidate::None);
+                assert_eq!(before.awaited_from(side), None);
+                assert_eq!(laptop.awaited(), before.awaited());
             }
             _ => assert_eq!(*laptop, before),
         }
@@ -316,13 +346,15 @@ fn no_mode_is_entered_while_there_is_a_candidate_or_identity_is_awaited() {
     for event in generate(4) {
         run.take(&event);
         let laptop = run.laptop();
-        assert!(laptop.page_count(Side::Partner) <= 200);
-        let gathering = *laptop.candidate(Side::Partner) != Candidate::None || wait(laptop) == 1;
-        if let (true, Some(held)) = (gathering, laptop.held(Side::Partner)) {
-            assert!(held
-                .svids
-                .iter()
-                .all(|&svid| laptop.entered_count(Side::Partner, svid) == 0));
+        for side in Side::BOTH {
+            assert!(laptop.page_count(side) <= 200);
+            let awaited = laptop.awaited_from(side);
+            let awaits_identity = awaited.is_some_and(|request| request.command == 1);
+            let is_gathering = *laptop.candidate(side) != Candidate::None || awaits_identity;
+            if let (true, Some(held)) = (is_gathering, laptop.held(side)) {
+                let mut svids = held.svids.iter();
+                assert!(svids.all(|&svid| laptop.entered_count(side, svid) == 0));
+            }
         }
     }
 }

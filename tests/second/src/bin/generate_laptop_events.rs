@@ -33,7 +33,13 @@ fn main() -> Result<ExitCode, Box<dyn Error>> {
     );
     let missing = match asked {
         Asked::Stream(_) => Vec::new(),
-        _ => [reached.missing(&expected()), tally.missing()].concat(),
+        Asked::Seed(_) => [reached.missing(&expected()), tally.missing()].concat(),
+        Asked::Stored => [
+            reached.missing(&expected()),
+            tally.missing(),
+            tally.missing_lists(),
+        ]
+        .concat(),
     };
     Ok(print(&bytes, counts, &missing)?)
 }

@@ -3,12 +3,13 @@
 use super::{Event, Item, Outcome, Run};
 use crate::digest;
 use crate::fields::{self, or_nothing};
+use crate::laptop::Laptop;
 use crate::side::Side;
 use crate::stream::{print_hex, print_lines, Place, Stop};
 use std::io::{self, BufRead, Write};
 
-const HEADING: &str = "stream event refusal sent output told awaited candidate pages held \
-    candidate_run held_run catalogue report";
+const HEADING: &str = "stream event side refusal sent output told awaited candidate pages held \
+    candidate_run held_run catalogue report other_candidate other_pages other_held";
 
 pub fn print_answers(input: &mut impl BufRead, output: &mut impl Write) -> io::Result<()> {
     writeln!(output, "{HEADING}")?;
@@ -16,12 +17,21 @@ pub fn print_answers(input: &mut impl BufRead, output: &mut impl Write) -> io::R
     let mut place = Place::FIRST;
     print_lines("events", input, output, |_, input, output| {
         let event = take_event(input, &mut run, &mut place)?;
+        let side = side_of(&event, run.laptop());
         let outcome = run.take(&event);
-        write!(output, "{place} ")?;
+        write!(output, "{place} {side} ")?;
         print_outcome(&outcome, output)?;
-        print_laptop(&run, output)?;
-        Ok(print_readings(&outcome, output)?)
+        print_laptop(&run, side, output)?;
+        print_readings(&outcome, output)?;
+        Ok(print_other(run.laptop(), side.other(), output)?)
     })
+}
+
+/// The side that the event says; of a timer or a protocol error the one that waits, the partner if
+/// none does.
+fn side_of(event: &Event, laptop: &Laptop) -> Side {
+    let waiting = laptop.awaited().map(|awaited| awaited.side);
+    event.side().or(waiting).unwrap_or(Side::Partner)
 }
 
 /// The next event, which may be that of a new stream: then the laptop is fresh.
@@ -52,16 +62,18 @@ fn print_outcome(outcome: &Outcome, output: &mut impl Write) -> io::Result<()> {
     write!(output, " {buffer} {told}")
 }
 
-/// What the laptop and its runs have come to.
-fn print_laptop(run: &Run, output: &mut impl Write) -> io::Result<()> {
+/// What the laptop awaits, and what it and the runs of the side have come to.
+fn print_laptop(run: &Run, side: Side, output: &mut impl Write) -> io::Result<()> {
     let laptop = run.laptop();
-    let awaited = or_nothing(laptop.awaited_from(Side::Partner).map(fields::request));
-    let candidate = fields::candidate(laptop.candidate(Side::Partner));
-    let pages = laptop.page_count(Side::Partner);
-    let held = fields::held_count(laptop, Side::Partner);
-    write!(output, " {awaited} {candidate} {pages} {held}")?;
-    let candidate_run = digest::of_words(&run.runs(Side::Partner).candidate);
-    let held_run = digest::of_words(&run.runs(Side::Partner).held);
+    let awaited = laptop.awaited();
+    let awaited = awaited.map(|awaited| {
+        let request = fields::request(awaited.request);
+        format!("{}:{request}", awaited.side)
+    });
+    let candidate_run = digest::of_words(&run.runs(side).candidate);
+    let held_run = digest::of_words(&run.runs(side).held);
+    let (awaited, of_side) = (or_nothing(awaited), state_of(laptop, side));
+    write!(output, " {awaited} {of_side}")?;
     write!(output, " {candidate_run:08X} {held_run:08X}")
 }
 
@@ -70,5 +82,18 @@ fn print_readings(outcome: &Outcome, output: &mut impl Write) -> io::Result<()> 
     let catalogue = outcome.catalogue.as_deref();
     let catalogue = catalogue.map(|bytes| format!("{}:{}", bytes.len(), fields::digest_of(bytes)));
     let report = outcome.report.map(|count| count.to_string());
-    writeln!(output, " {} {}", or_nothing(catalogue), or_nothing(report))
+    write!(output, " {} {}", or_nothing(catalogue), or_nothing(report))
+}
+
+/// What the laptop has of the other side.
+fn print_other(laptop: &Laptop, other: Side, output: &mut impl Write) -> io::Result<()> {
+    writeln!(output, " {}", state_of(laptop, other))
+}
+
+/// The candidate, the page count and the number of held SVIDs.
+fn state_of(laptop: &Laptop, side: Side) -> String {
+    let candidate = fields::candidate(laptop.candidate(side));
+    let pages = laptop.page_count(side);
+    let held = fields::held_count(laptop, side);
+    format!("{candidate} {pages} {held}")
 }

@@ -21,15 +21,20 @@ use std::collections::BTreeSet;
 pub const STREAMS: u64 = 2048;
 /// The refusal that is the dock's alone.
 const OF_THE_DOCK: &str = "refusal 10";
-/// In a short stream, one event in so many has others before or after it.
+/// Of a sort of other events, one comes before or after one event in so many.
 const SELDOM: usize = 24;
+
+/// A side's candidate, and from which side which command is awaited.
+type Situation = (&'static str, Option<(Side, u8)>);
 
 struct Generator {
     random: Random,
     /// The laptop under the events so far.
     run: Run,
-    /// By the kind of event, the candidate and the command awaited.
-    situations: BTreeSet<(u8, &'static str, Option<u8>)>,
+    /// By the kind of event, its side's candidate and what is awaited.
+    situations: BTreeSet<(u8, Situation)>,
+    /// By side, those in which its catalogue was written.
+    written: BTreeSet<(Side, Situation)>,
     events: Vec<Event>,
 }
 
@@ -37,7 +42,9 @@ struct Generator {
 /// leave a laptop that awaits, gathers and holds nothing, as those events expect it.
 pub fn generate(seed: u64) -> Vec<Event> {
     let mut generator = Generator::of(Random::from_seed(seed));
-    generator.nothing_held(Side::Partner);
+    for side in Side::BOTH {
+        generator.nothing_held(side);
+    }
     generator.past_two_hundred();
     for event in watcher::generator::generate(seed) {
         generator.among(&event.into());
@@ -85,6 +92,7 @@ impl Generator {
             random,
             run: Run::default(),
             situations: BTreeSet::new(),
+            written: BTreeSet::new(),
             events: Vec::new(),
         }
     }
@@ -98,31 +106,35 @@ impl Generator {
     /// An event of the watcher, at times with others before and after it, none of which changes
     /// the laptop.
     fn among(&mut self, event: &Event) {
-        let situation = self.situation(event);
-        if self.situations.insert(situation) {
+        let side = event.side().unwrap_or(Side::Partner);
+        let situation = self.situation(side);
+        if self.situations.insert((event.kind(), situation)) {
             self.with_each_short_length(event);
-            self.write_with_all_runs(Side::Partner, MOST_CATALOGUE_ROOM);
         }
-        if self.random.is_rare() {
+        if self.written.insert((side, situation)) {
+            self.write_with_all_runs(side, MOST_CATALOGUE_ROOM);
+        }
+        if self.is_seldom() {
             self.damaged(event);
         }
-        let held_before = self.run.laptop().held(Side::Partner).cloned();
-        if self.random.is_rare() {
+        let held_before = self.run.laptop().held(side).cloned();
+        if self.is_seldom() {
             self.with_drawn_lengths(event);
         } else {
             self.push(event.clone());
         }
-        if self.run.laptop().held(Side::Partner) != held_before.as_ref() {
-            self.catalogue_at_its_length(Side::Partner);
+        if self.run.laptop().held(side) != held_before.as_ref() {
+            self.catalogue_at_its_length(side);
         }
-        if self.random.is_rare() {
+        if self.is_seldom() {
             self.drawn_reading(event);
         }
     }
 
     /// As among others, but of those only one sort at a time.
     fn seldom_among(&mut self, event: &Event) {
-        let held_before = self.run.laptop().held(Side::Partner).cloned();
+        let side = event.side().unwrap_or(Side::Partner);
+        let held_before = self.run.laptop().held(side).cloned();
         match self.random.below(SELDOM) {
             0 => self.with_drawn_lengths(event),
             1 => {
@@ -141,19 +153,24 @@ impl Generator {
                 self.push(event.clone());
             }
         }
-        if self.run.laptop().held(Side::Partner) != held_before.as_ref() {
-            self.catalogue_at_its_length(Side::Partner);
+        if self.run.laptop().held(side) != held_before.as_ref() {
+            self.catalogue_at_its_length(side);
         }
     }
 
-    fn situation(&self, event: &Event) -> (u8, &'static str, Option<u8>) {
+    fn is_seldom(&mut self) -> bool {
+        self.random.below(SELDOM) == 0
+    }
+
+    fn situation(&self, side: Side) -> Situation {
         let laptop = self.run.laptop();
-        let candidate = match laptop.candidate(Side::Partner) {
+        let candidate = match laptop.candidate(side) {
             Candidate::None => NO_CANDIDATE,
             Candidate::ListOpen(_) => LIST_OPEN,
             Candidate::ListDone(_) => LIST_DONE,
         };
-        let command = laptop.awaited().map(|awaited| awaited.request.command);
-        (event.kind(), candidate, command)
+        let awaited = laptop.awaited();
+        let awaited = awaited.map(|awaited| (awaited.side, awaited.request.command));
+        (candidate, awaited)
     }
 }

@@ -1,15 +1,16 @@
-//! Counts what streams of laptop events reach that their lines do not tell: damaged messages,
-//! messages with bit 5, late answers, repeats, and pages after the two hundredth.
+//! Counts what streams of laptop events reach that their lines do not tell, by side: damaged messages,
+//! messages with bit 5, late answers, repeats, pages after the two hundredth, and what one side does
+//! while the other waits or gathers.
 
 use super::{Event, Outcome, Run};
 use crate::call::Call;
 use crate::counts::Counts;
-use crate::laptop::{Candidate, MOST_PAGES};
-use crate::messages::{
-    has_reserved, read, Message, Request, ACK, ENTER, EXIT, IDENTITY, MODES, REQ, SVIDS,
-};
+use crate::laptop::{Awaited, Laptop, MOST_PAGES};
+use crate::messages::{has_reserved, read, Message, ACK, ENTER, EXIT, IDENTITY, MODES, REQ, SVIDS};
+use crate::pages::MOST_SVIDS;
 use crate::refusals::{ACCEPTED, NOT_AWAITED, NOT_WHOLE_OBJECTS, WRONG_SHAPE};
 use crate::side::Side;
+use crate::two_sides::{self, Step};
 
 const STREAMS: &str = "streams";
 const REPEAT: &str = "repeat of the last page taken";
@@ -23,22 +24,8 @@ const RESERVED: &str = "message with bit 5 accepted";
 pub struct Tally {
     run: Run,
     /// Each request whose wait a timer or a protocol error has ended, until an answer comes.
-    unanswered: Vec<Request>,
+    unanswered: Vec<Awaited>,
     counts: Counts,
-}
-
-/// What a message finds, before the laptop takes it.
-struct Before {
-    awaited: Option<Request>,
-    candidate: Candidate,
-    page_count: usize,
-}
-
-impl Before {
-    /// The command that is awaited; 0 is nothing.
-    fn command(&self) -> u8 {
-        self.awaited.map_or(0, |request| request.command)
-    }
 }
 
 impl Tally {
@@ -53,96 +40,148 @@ impl Tally {
     }
 
     fn count(&mut self, event: &Event) {
-        let laptop = self.run.laptop();
-        let before = Before {
-            awaited: laptop.awaited_from(Side::Partner),
-            candidate: laptop.candidate(Side::Partner).clone(),
-            page_count: laptop.page_count(Side::Partner),
-        };
+        let before = self.run.laptop().clone();
         let outcome = self.run.take(event);
+        let step = Step {
+            before: &before,
+            refusal: outcome.refusal,
+            told: outcome.told,
+            after: self.run.laptop(),
+        };
+        let of_sides = match event {
+            Event::Message { side, bytes } => step.of_message(*side, bytes),
+            Event::Call(call) => step.of_call(*call),
+            _ => Vec::new(),
+        };
+        of_sides.into_iter().for_each(|name| self.counts.add(name));
         match event {
-            Event::Message { bytes, .. } => match read(bytes) {
-                Ok(message) => {
-                    self.count_reserved(bytes, &before, &outcome);
-                    self.count_message(&message, &before, &outcome);
-                }
-                Err(_) => self.count_damaged(&before, &outcome),
-            },
+            Event::Message { side, bytes } => self.count_message(*side, bytes, &before, &outcome),
             Event::Call(call) => self.end_wait(*call, &before, &outcome),
             _ => {}
         }
     }
 
+    fn count_message(&mut self, side: Side, bytes: &[u8], before: &Laptop, outcome: &Outcome) {
+        match read(bytes) {
+            Ok(message) => {
+                self.count_reserved(side, bytes, before, outcome);
+                self.count_page(side, &message, before, outcome);
+                self.count_late(side, &message, before, outcome);
+            }
+            Err(_) => self.count_damaged(side, before, outcome),
+        }
+        let held = self.run.laptop().held(side);
+        if let Some(held) = held.filter(|_| held != before.held(side)) {
+            self.counts.add(list(side, held.svids.len()));
+        }
+    }
+
     /// Short runs are refused before the message is read.
-    fn count_damaged(&mut self, before: &Before, outcome: &Outcome) {
+    fn count_damaged(&mut self, side: Side, before: &Laptop, outcome: &Outcome) {
         if (NOT_WHOLE_OBJECTS..=WRONG_SHAPE).contains(&outcome.refusal) {
-            self.counts.add(awaiting(DAMAGED, before.command()));
+            let command = command_awaited(before, side);
+            self.counts.add(awaiting(DAMAGED, side, command));
         }
     }
 
-    /// With nothing awaited, Attention alone is accepted.
-    fn count_reserved(&mut self, bytes: &[u8], before: &Before, outcome: &Outcome) {
+    /// With nothing awaited from its side, Attention alone is accepted.
+    fn count_reserved(&mut self, side: Side, bytes: &[u8], before: &Laptop, outcome: &Outcome) {
         if has_reserved(bytes) && outcome.refusal == ACCEPTED {
-            self.counts.add(awaiting(RESERVED, before.command()));
+            let command = command_awaited(before, side);
+            self.counts.add(awaiting(RESERVED, side, command));
         }
     }
 
-    fn count_message(&mut self, message: &Message, before: &Before, outcome: &Outcome) {
+    fn count_page(&mut self, side: Side, message: &Message, before: &Laptop, outcome: &Outcome) {
         let is_page = (message.command, message.kind) == (SVIDS, ACK);
-        if is_page && before.page_count == MOST_PAGES && outcome.refusal == NOT_AWAITED {
-            self.counts.add(PAGE_201.to_string());
+        let is_last = before.page_count(side) == MOST_PAGES;
+        if is_page && is_last && outcome.refusal == NOT_AWAITED {
+            self.counts.add(of_side(PAGE_201, side));
         }
-        let has_new_page = self.run.laptop().page_count(Side::Partner) > before.page_count;
-        if has_new_page && *self.run.laptop().candidate(Side::Partner) == before.candidate {
-            self.counts.add(REPEAT.to_string());
+        let after = self.run.laptop();
+        let has_new_page = after.page_count(side) > before.page_count(side);
+        if has_new_page && after.candidate(side) == before.candidate(side) {
+            self.counts.add(of_side(REPEAT, side));
         }
-        self.count_late(message, before, outcome);
     }
 
     /// An answer that fits a request whose wait has ended.
-    fn count_late(&mut self, message: &Message, before: &Before, outcome: &Outcome) {
-        let request = Request {
-            svid: message.svid,
-            command: message.command,
-            position: message.position,
-        };
-        let place = self.unanswered.iter().position(|&late| late == request);
+    fn count_late(&mut self, side: Side, message: &Message, before: &Laptop, outcome: &Outcome) {
+        let request = message.request();
+        let fitting = Awaited { side, request };
+        let place = self.unanswered.iter().position(|&late| late == fitting);
         let Some(place) = place.filter(|_| message.kind != REQ) else {
             return;
         };
-        match (outcome.refusal, before.awaited) {
-            (NOT_AWAITED, None) => self.counts.add(LATE_ALONE.to_string()),
-            (ACCEPTED, Some(_)) => self.counts.add(LATE_TAKEN.to_string()),
+        match (outcome.refusal, before.awaited_from(side)) {
+            (NOT_AWAITED, None) => self.counts.add(of_side(LATE_ALONE, side)),
+            (ACCEPTED, Some(_)) => self.counts.add(of_side(LATE_TAKEN, side)),
             _ => return,
         }
         self.unanswered.remove(place);
     }
 
-    fn end_wait(&mut self, call: Call, before: &Before, outcome: &Outcome) {
+    fn end_wait(&mut self, call: Call, before: &Laptop, outcome: &Outcome) {
         let ends_wait = !call.is_owners() && outcome.refusal == ACCEPTED;
-        self.unanswered.extend(before.awaited.filter(|_| ends_wait));
+        self.unanswered
+            .extend(before.awaited().filter(|_| ends_wait));
     }
 
+    /// What any long stream reaches, and these did not.
     pub fn missing(&self) -> Vec<String> {
         self.counts.missing(&names())
     }
 
+    /// The lists of each side that were never published: all streams together publish each.
+    pub fn missing_lists(&self) -> Vec<String> {
+        self.counts.missing(&lists())
+    }
+
     pub fn table(&self) -> String {
-        self.counts.table(&names())
+        let published = lists()
+            .iter()
+            .filter(|list| self.counts.of(list) > 0)
+            .count();
+        let names = self.counts.table(&names());
+        format!("{names}\nlists published, by side and length: {published}")
     }
 }
 
 fn names() -> Vec<String> {
-    let single = [STREAMS, REPEAT, PAGE_201, LATE_ALONE, LATE_TAKEN].map(str::to_string);
+    let sorts = [REPEAT, PAGE_201, LATE_ALONE, LATE_TAKEN];
     let commands = [0, IDENTITY, SVIDS, MODES, ENTER, EXIT];
-    let sorts = [DAMAGED, RESERVED].into_iter();
-    let awaiting = sorts.flat_map(|sort| commands.map(|command| awaiting(sort, command)));
-    single.into_iter().chain(awaiting).collect()
+    let mut names = vec![STREAMS.to_string()];
+    for side in Side::BOTH {
+        names.extend(sorts.map(|sort| of_side(sort, side)));
+        names.extend(commands.map(|command| awaiting(DAMAGED, side, command)));
+        names.extend(commands.map(|command| awaiting(RESERVED, side, command)));
+    }
+    [names, two_sides::names(), two_sides::short_run_names()].concat()
 }
 
-fn awaiting(sort: &str, command: u8) -> String {
+fn lists() -> Vec<String> {
+    let lengths = 0..=MOST_SVIDS;
+    let of_sides = lengths.flat_map(|length| Side::BOTH.map(|side| list(side, length)));
+    of_sides.collect()
+}
+
+/// The command that is awaited from the side; 0 is nothing.
+fn command_awaited(laptop: &Laptop, side: Side) -> u8 {
+    let awaited = laptop.awaited_from(side);
+    awaited.map_or(0, |request| request.command)
+}
+
+fn of_side(sort: &str, side: Side) -> String {
+    format!("{sort}, {side}")
+}
+
+fn list(side: Side, length: usize) -> String {
+    format!("list of {length} of the {side} published")
+}
+
+fn awaiting(sort: &str, side: Side, command: u8) -> String {
     match command {
-        0 => format!("{sort} awaiting nothing"),
-        _ => format!("{sort} awaiting command {command}"),
+        0 => format!("{sort} from the {side} awaiting nothing"),
+        _ => format!("{sort} from the {side} awaiting command {command}"),
     }
 }

@@ -1,10 +1,13 @@
-//! Makes the events: the cases of 01, then sequences that reach every rule of the laptop end.
+//! Makes the events: the cases of 01, then sequences that reach every rule of the laptop end, of one
+//! side or the other, with events of the other side in between.
 
 mod bad_pages;
+mod both_sides;
 mod cases;
 mod damage;
 mod drawn;
 mod lists;
+mod meanwhile;
 mod messages;
 mod modes;
 mod short;
@@ -34,6 +37,8 @@ struct Generator {
     side: Side,
     /// The last request sent to each side.
     asked: Sides<Request>,
+    /// Whether events of the other side come in between.
+    interleaves: bool,
     events: Vec<Event>,
 }
 
@@ -41,17 +46,20 @@ struct Generator {
 /// sequences that need none come before the cases.
 pub fn generate(seed: u64) -> Vec<Event> {
     let mut generator = Generator::of(Random::from_seed(seed));
-    generator.unheld();
-    generator.cases();
-    generator.lists();
+    generator.for_each_side(Generator::unheld);
+    generator.for_each_side(Generator::cases);
+    generator.interleaves = true;
+    generator.lists(seed);
     generator.two_hundred();
     generator.bad_pages();
-    generator.modes();
-    generator.calls_everywhere();
-    generator.messages_everywhere();
+    generator.for_each_side(Generator::modes);
+    generator.interleaves = false;
+    generator.for_each_side(Generator::calls_everywhere);
+    generator.for_each_side(Generator::messages_everywhere);
     generator.late_answers();
     generator.damage();
-    generator.reserved();
+    generator.for_each_side(Generator::reserved);
+    generator.both_sides();
     generator.drawn();
     generator.events
 }
@@ -74,11 +82,28 @@ impl Generator {
                 command: IDENTITY,
                 position: 0,
             }),
+            interleaves: false,
             events: Vec::new(),
         }
     }
 
+    /// From now on it is the other side's turn.
+    fn turn(&mut self) {
+        self.side = self.side.other();
+    }
+
+    /// Has each side's turn come, one after the other.
+    fn for_each_side(&mut self, sequence: impl Fn(&mut Self)) {
+        for side in Side::BOTH {
+            self.side = side;
+            sequence(self);
+        }
+    }
+
     fn push(&mut self, event: impl Into<Event>) -> Outcome {
+        if self.interleaves && self.random.is_rare() {
+            self.meanwhile();
+        }
         let event = event.into();
         let outcome = self.run.take(&event);
         if let Some(Awaited { side, request }) = self.run.laptop().awaited() {
@@ -116,12 +141,7 @@ impl Generator {
 
     /// The header of an answer to the last request.
     fn fitting(&self, kind: u8) -> Header {
-        let Request {
-            svid,
-            command,
-            position,
-        } = self.asked[self.side];
-        Header::ours(svid, command, kind, position)
+        header_of(self.asked[self.side], kind)
     }
 
     /// An answer to the last request, in a version that is read, and with bit 5 clear or set.
@@ -132,12 +152,18 @@ impl Generator {
 
     /// An answer to the last request, with drawn objects; a page has one SVID and ends the list.
     fn answer_well(&mut self, kind: u8) -> Outcome {
-        let objects = self.good_objects(kind);
-        self.answer(kind, &objects)
+        self.answer_to(self.asked[self.side], kind)
     }
 
-    fn good_objects(&mut self, kind: u8) -> Vec<u32> {
-        match (kind, self.asked[self.side].command) {
+    /// As such an answer, to any request.
+    fn answer_to(&mut self, request: Request, kind: u8) -> Outcome {
+        let objects = self.good_objects(request.command, kind);
+        let header = header_of(request, kind).of_another_maker(&mut self.random);
+        self.message(header, &objects)
+    }
+
+    fn good_objects(&mut self, command: u8, kind: u8) -> Vec<u32> {
+        match (kind, command) {
             (ACK, IDENTITY) => {
                 let more = self.random.below(MOST_AFTER_HEADER - LEAST_IDENTITY + 1);
                 self.random.objects(LEAST_IDENTITY + more)
@@ -212,4 +238,13 @@ impl Generator {
         let held = self.run.laptop().held(self.side);
         held.map(|held| held.svids.clone()).unwrap_or_default()
     }
+}
+
+fn header_of(request: Request, kind: u8) -> Header {
+    let Request {
+        svid,
+        command,
+        position,
+    } = request;
+    Header::ours(svid, command, kind, position)
 }

@@ -2,7 +2,7 @@
 
 use super::Event;
 use crate::catalogue::{MOST_CATALOGUE_BYTES, RUN_WORDS};
-use crate::laptop::{Answer, Laptop};
+use crate::laptop::{Answer, Laptop, Told};
 use crate::lent_runs::LentRuns;
 use crate::messages::{bytes_of, OBJECT_BYTES};
 use crate::refusals::ACCEPTED;
@@ -21,6 +21,7 @@ pub struct Outcome {
     pub refusal: u8,
     /// The header of the request to send, if any.
     pub sent: Option<u32>,
+    pub told: Option<Told>,
 }
 
 impl Default for Run {
@@ -51,10 +52,12 @@ impl Run {
             Ok(accepted) => Outcome {
                 refusal: ACCEPTED,
                 sent: (accepted.length > 0).then(|| u32::from_le_bytes(self.buffer)),
+                told: accepted.told,
             },
             Err(refusal) => Outcome {
                 refusal,
                 sent: None,
+                told: None,
             },
         }
     }

@@ -1,8 +1,9 @@
 //! Counts what a stream of laptop events reaches, and tells what it never reaches.
 
 use super::event::kinds;
-use super::{Event, Run};
-use crate::laptop::{Candidate, Laptop};
+use super::{Event, Outcome, Run};
+use crate::counts::Counts;
+use crate::laptop::{Awaited, Candidate, Laptop};
 use crate::messages::{
     bytes_of, has_reserved, read, ACK, ATTENTION, BUSY, ENTER, EXIT, IDENTITY, LAST_MODE_POSITION,
     LAST_POSITION, MODES, NAK, REQ, SVIDS,
@@ -13,7 +14,7 @@ use crate::refusals::{
     UNREAD_MAJOR, VOIDED, WRONG_SHAPE,
 };
 use crate::side::Side;
-use std::collections::BTreeMap;
+use crate::two_sides::{self, Step};
 use std::fmt;
 
 /// Every refusal of the laptop but 1 and 11, which the stream cannot bring about.
@@ -30,132 +31,131 @@ const REFUSALS: [u8; 11] = [
     BLOCKED,
     NO_END,
 ];
-const WAITS: [&str; 6] = ["nothing", "Identity", "SVIDs", "Modes", "Enter", "Exit"];
+const COMMANDS: [u8; 5] = [IDENTITY, SVIDS, MODES, ENTER, EXIT];
+const RESERVED: &str = "message with bit 5 accepted";
 const NO_CANDIDATE: &str = "no candidate";
 const LIST_OPEN: &str = "list open";
 const LIST_DONE: &str = "list done";
-/// Every candidate and wait that go together.
-const STATES: [(&str, &str); 8] = [
-    (NO_CANDIDATE, "nothing"),
-    (NO_CANDIDATE, "Identity"),
-    (NO_CANDIDATE, "Enter"),
-    (NO_CANDIDATE, "Exit"),
-    (LIST_OPEN, "nothing"),
-    (LIST_OPEN, "SVIDs"),
-    (LIST_DONE, "nothing"),
-    (LIST_DONE, "Modes"),
+/// Every candidate and the commands awaited from its side with it.
+const STATES: [(&str, &[u8]); 3] = [
+    (NO_CANDIDATE, &[IDENTITY, ENTER, EXIT]),
+    (LIST_OPEN, &[SVIDS]),
+    (LIST_DONE, &[MODES]),
 ];
 
 #[derive(Default)]
 pub struct Tally {
     run: Run,
-    refusals: BTreeMap<u8, usize>,
-    /// By the event's kind and the wait before it.
-    pairs: BTreeMap<(u8, &'static str), usize>,
-    /// By the candidate and the wait before an event.
-    states: BTreeMap<(&'static str, &'static str), usize>,
-    /// By the command and position of a request sent.
-    requests: BTreeMap<(u8, u8), usize>,
-    /// By the length of a list that was published.
-    lists: BTreeMap<usize, usize>,
-    /// By the command and type of a message with bit 5 that was accepted.
-    reserved: BTreeMap<(u8, u8), usize>,
+    counts: Counts,
 }
 
 impl Tally {
     pub fn count(&mut self, event: &Event) {
-        let wait = wait(self.run.laptop());
-        let state = (candidate(self.run.laptop().candidate(Side::Partner)), wait);
-        let side = event.side().unwrap_or(Side::Partner);
-        let held_before = self.run.laptop().held(side).cloned();
+        let before = self.run.laptop().clone();
         let outcome = self.run.take(event);
-        *self.pairs.entry((event.kind(), wait)).or_default() += 1;
-        *self.states.entry(state).or_default() += 1;
-        *self.refusals.entry(outcome.refusal).or_default() += 1;
+        self.count_before(event, &before, outcome.refusal);
+        let step = Step {
+            before: &before,
+            refusal: outcome.refusal,
+            told: outcome.told,
+            after: self.run.laptop(),
+        };
+        let of_sides = match event {
+            Event::Message { side, objects } => step.of_message(*side, &bytes_of(objects)),
+            Event::Call(call) => step.of_call(*call),
+        };
+        of_sides.into_iter().for_each(|name| self.counts.add(name));
+        self.count_after(event, &before, &outcome);
+    }
+
+    /// By the wait before the event, and by the candidates of both sides with it.
+    fn count_before(&mut self, event: &Event, before: &Laptop, refusal: u8) {
+        let awaited = wait(before.awaited());
+        self.counts.add(format!("refusal {refusal}"));
+        self.counts.add(pair(event.kind(), &awaited));
+        for side in Side::BOTH {
+            let candidate = match before.candidate(side) {
+                Candidate::None => NO_CANDIDATE,
+                Candidate::ListOpen(_) => LIST_OPEN,
+                Candidate::ListDone(_) => LIST_DONE,
+            };
+            self.counts.add(state(side, candidate, &awaited));
+        }
+    }
+
+    /// What was sent, published, or accepted with bit 5.
+    fn count_after(&mut self, event: &Event, before: &Laptop, outcome: &Outcome) {
         let laptop = self.run.laptop();
-        if let (Some(_), Some(awaited)) = (outcome.sent, laptop.awaited()) {
-            let sent = (awaited.request.command, awaited.request.position);
-            *self.requests.entry(sent).or_default() += 1;
+        if let (Some(_), Some(Awaited { side, request })) = (outcome.sent, laptop.awaited()) {
+            self.counts
+                .add(sent(side, request.command, request.position));
         }
-        if let Some(held) = laptop
-            .held(side)
-            .filter(|&held| Some(held) != held_before.as_ref())
-        {
-            *self.lists.entry(held.svids.len()).or_default() += 1;
+        let Event::Message { side, objects } = event else {
+            return;
+        };
+        let held = self.run.laptop().held(*side);
+        if let Some(held) = held.filter(|_| held != before.held(*side)) {
+            self.counts.add(list(held.svids.len()));
+            self.counts.add(lists(*side));
         }
-        if let Event::Message { objects, .. } = event {
-            self.count_reserved(&bytes_of(objects), outcome.refusal);
-        }
-    }
-
-    fn count_reserved(&mut self, bytes: &[u8], refusal: u8) {
-        let message = read(bytes).ok().filter(|_| has_reserved(bytes));
-        if let Some(message) = message.filter(|_| refusal == ACCEPTED) {
-            let pair = (message.command, message.kind);
-            *self.reserved.entry(pair).or_default() += 1;
+        let bytes = bytes_of(objects);
+        let message = read(&bytes).ok().filter(|_| has_reserved(&bytes));
+        if let Some(message) = message.filter(|_| outcome.refusal == ACCEPTED) {
+            self.counts.add(RESERVED.to_string());
+            self.counts
+                .add(reserved(*side, message.command, message.kind));
         }
     }
 
-    /// A line for each refusal, pair, state, request and length of a list that never occurred, and
-    /// for each command and type that was never accepted with bit 5.
+    /// A line for each of the names that never occurred.
     pub fn missing(&self) -> Vec<String> {
-        let refusals = absent(&self.refusals, REFUSALS)
-            .map(|refusal| format!("refusal {refusal} never occurred"));
-        let pairs = kinds()
-            .into_iter()
-            .filter(|&kind| Side::of_kind(kind).0 == Side::Partner)
-            .flat_map(|kind| WAITS.map(|wait| (kind, wait)));
-        let pairs = absent(&self.pairs, pairs)
-            .map(|(kind, wait)| format!("kind {kind:02X} awaiting {wait} never occurred"));
-        let states = absent(&self.states, STATES)
-            .map(|(candidate, wait)| format!("{candidate} awaiting {wait} never occurred"));
-        let requests = absent(&self.requests, requests())
-            .map(|(command, position)| format!("request {command} at {position} never occurred"));
-        let lists = absent(&self.lists, 0..=MOST_SVIDS)
-            .map(|length| format!("a list of {length} never occurred"));
-        let reserved = absent(&self.reserved, taken()).map(|(command, kind)| {
-            format!("command {command} type {kind} with bit 5 was never accepted")
-        });
-        let first = refusals.chain(pairs).chain(states);
-        first.chain(requests).chain(lists).chain(reserved).collect()
+        self.counts.missing(&names())
     }
 }
 
 impl fmt::Display for Tally {
     fn fmt(&self, formatter: &mut fmt::Formatter) -> fmt::Result {
-        for (refusal, count) in &self.refusals {
-            writeln!(formatter, "refusal {refusal}: {count}")?;
-        }
-        for ((kind, wait), count) in &self.pairs {
-            writeln!(formatter, "kind {kind:02X} awaiting {wait}: {count}")?;
-        }
-        for ((candidate, wait), count) in &self.states {
-            writeln!(formatter, "{candidate} awaiting {wait}: {count}")?;
-        }
-        for ((command, position), count) in &self.requests {
-            writeln!(formatter, "request {command} at {position}: {count}")?;
-        }
-        let reserved: usize = self.reserved.values().sum();
-        let pairs = self.reserved.len();
-        writeln!(
-            formatter,
-            "messages with bit 5 accepted: {reserved}, of {pairs} pairs of command and type"
-        )?;
-        let published: usize = self.lists.values().sum();
-        let lengths = self.lists.len();
-        write!(
-            formatter,
-            "lists published: {published}, of {lengths} lengths"
-        )
+        write!(formatter, "{}", self.counts.table(&names()))
     }
 }
 
-/// The items that were never counted.
-fn absent<'map, Item: Ord>(
-    counted: &'map BTreeMap<Item, usize>,
-    items: impl IntoIterator<Item = Item> + 'map,
-) -> impl Iterator<Item = Item> + 'map {
-    items.into_iter().filter(|item| !counted.contains_key(item))
+fn names() -> Vec<String> {
+    let mut names: Vec<String> = REFUSALS.map(|number| format!("refusal {number}")).to_vec();
+    for awaited in waits() {
+        names.extend(
+            kinds()
+                .into_iter()
+                .map(|kind| pair(kind, &wait_of(awaited))),
+        );
+    }
+    for side in Side::BOTH {
+        names.extend(states(side));
+        names.extend(requests().map(|(command, position)| sent(side, command, position)));
+        names.extend(taken().map(|(command, kind)| reserved(side, command, kind)));
+        names.push(lists(side));
+    }
+    names.extend((0..=MOST_SVIDS).map(list));
+    names.push(RESERVED.to_string());
+    names.extend(two_sides::names());
+    names
+}
+
+/// Nothing awaited, and each command from each side.
+fn waits() -> impl Iterator<Item = Option<(Side, u8)>> {
+    let of_sides = Side::BOTH.map(|side| COMMANDS.map(|command| Some((side, command))));
+    [None].into_iter().chain(of_sides.into_iter().flatten())
+}
+
+/// Each candidate of the side with nothing awaited, each with what is awaited from that side, and
+/// each with any command awaited from the other.
+fn states(side: Side) -> Vec<String> {
+    let with_waits = STATES.iter().flat_map(|&(candidate, commands)| {
+        let own = commands.iter().map(|&command| Some((side, command)));
+        let others = COMMANDS.map(|command| Some((side.other(), command)));
+        let waits = [None].into_iter().chain(own).chain(others);
+        waits.map(move |awaited| state(side, candidate, &wait_of(awaited)))
+    });
+    with_waits.collect()
 }
 
 /// The command and position of every request that a laptop can send.
@@ -168,25 +168,44 @@ fn requests() -> impl Iterator<Item = (u8, u8)> {
 
 /// The command and type of every message that a laptop can accept; a NAK to Modes it refuses.
 fn taken() -> impl Iterator<Item = (u8, u8)> {
-    let answers = [IDENTITY, SVIDS, MODES, ENTER, EXIT]
+    let answers = COMMANDS
         .into_iter()
         .flat_map(|command| [ACK, NAK, BUSY].map(|kind| (command, kind)));
     let answers = answers.filter(|&pair| pair != (MODES, NAK));
     answers.chain([(ATTENTION, REQ)])
 }
 
-/// Commands 1 to 5 are awaited, so 0 stands for nothing.
-fn wait(laptop: &Laptop) -> &'static str {
-    let command = laptop
-        .awaited()
-        .map_or(0, |awaited| awaited.request.command);
-    WAITS[usize::from(command)]
+fn wait(awaited: Option<Awaited>) -> String {
+    wait_of(awaited.map(|awaited| (awaited.side, awaited.request.command)))
 }
 
-fn candidate(candidate: &Candidate) -> &'static str {
-    match candidate {
-        Candidate::None => NO_CANDIDATE,
-        Candidate::ListOpen(_) => LIST_OPEN,
-        Candidate::ListDone(_) => LIST_DONE,
+fn wait_of(awaited: Option<(Side, u8)>) -> String {
+    match awaited {
+        Some((side, command)) => format!("awaiting command {command} from the {side}"),
+        None => "awaiting nothing".to_string(),
     }
+}
+
+fn pair(kind: u8, wait: &str) -> String {
+    format!("kind {kind:02X} {wait}")
+}
+
+fn state(side: Side, candidate: &str, wait: &str) -> String {
+    format!("{candidate} of the {side} {wait}")
+}
+
+fn sent(side: Side, command: u8, position: u8) -> String {
+    format!("request {command} at {position} to the {side}")
+}
+
+fn list(length: usize) -> String {
+    format!("list of {length} published")
+}
+
+fn lists(side: Side) -> String {
+    format!("lists of the {side} published")
+}
+
+fn reserved(side: Side, command: u8, kind: u8) -> String {
+    format!("bit 5 accepted in command {command} type {kind} from the {side}")
 }

@@ -9,30 +9,32 @@ use crate::pages::{page, PAGE_SVIDS};
 use crate::side::Side;
 
 impl Generator {
+    /// Of one side the last page ends the list, and of the other it does not.
     pub(super) fn past_two_hundred(&mut self) {
-        let svids = self.random.different_svids(PAGE_SVIDS + 1);
-        let repeat = page(&svids, 0).objects;
-        for last in [page(&svids, 1).objects, repeat.clone()] {
-            self.push(Event::Call(Call::Next(Side::Partner)));
+        for side in Side::BOTH {
+            let svids = self.random.different_svids(PAGE_SVIDS + 1);
+            let repeat = page(&svids, 0).objects;
+            let last = match side {
+                Side::Partner => page(&svids, 1).objects,
+                Side::Cable => repeat.clone(),
+            };
+            self.push(Event::Call(Call::Next(side)));
             let identity = self.random.objects(3);
-            self.acknowledge(IDENTITY, &identity);
+            self.acknowledge(side, IDENTITY, &identity);
             for _ in 1..MOST_PAGES {
-                self.push(Event::Call(Call::Next(Side::Partner)));
-                self.acknowledge(SVIDS, &repeat);
+                self.push(Event::Call(Call::Next(side)));
+                self.acknowledge(side, SVIDS, &repeat);
             }
-            self.push(Event::Call(Call::Next(Side::Partner)));
-            self.acknowledge(SVIDS, &last);
-            self.acknowledge(SVIDS, &last);
-            self.acknowledge(SVIDS, &repeat);
-            self.push(Event::Call(Call::Drop(Side::Partner)));
+            self.push(Event::Call(Call::Next(side)));
+            self.acknowledge(side, SVIDS, &last);
+            self.acknowledge(side, SVIDS, &last);
+            self.acknowledge(side, SVIDS, &repeat);
+            self.push(Event::Call(Call::Drop(side)));
         }
     }
 
-    fn acknowledge(&mut self, command: u8, after: &[u32]) {
+    fn acknowledge(&mut self, side: Side, command: u8, after: &[u32]) {
         let header = Header::usual(command, ACK).word();
-        self.push(Event::of_objects(
-            Side::Partner,
-            &[&[header], after].concat(),
-        ));
+        self.push(Event::of_objects(side, &[&[header], after].concat()));
     }
 }

@@ -32,6 +32,7 @@ impl Generator {
         let (gathered, rest) = svids.split_at(pages * PAGE_SVIDS);
         let mut rest = rest.to_vec();
         rest[zeros].fill(0);
+        self.turn();
         self.gather(gathered, pages);
         self.page(&objects(&rest));
     }
@@ -44,6 +45,7 @@ impl Generator {
                 let (gathered, rest) = svids.split_at(pages * PAGE_SVIDS);
                 let mut rest = rest[..length].to_vec();
                 rest[place] = *gathered.get(other).unwrap_or(&rest[other]);
+                self.turn();
                 self.gather(gathered, pages);
                 self.page(&page(&rest, 0).objects);
             }
@@ -57,6 +59,7 @@ impl Generator {
         let twelves = svids.windows(PAGE_SVIDS);
         let last_few = (1..MOST_AFTER_HEADER).map(|count| &svids[svids.len() - 2 * count..]);
         for halves in twelves.chain(last_few) {
+            self.turn();
             self.gather(&svids, 2);
             self.page(&objects(halves));
             self.next();
@@ -68,6 +71,7 @@ impl Generator {
         let svids = self.random.different_svids(MOST_SVIDS + PAGE_SVIDS);
         for pages in [5, 6] {
             for length in 0..=PAGE_SVIDS {
+                self.turn();
                 let (gathered, rest) = svids.split_at(pages * PAGE_SVIDS);
                 self.gather(gathered, pages);
                 self.page(&page(&rest[..length], 0).objects);

@@ -8,6 +8,7 @@ use crate::messages::{ACK, MOST_AFTER_HEADER, SVIDS};
 impl Generator {
     pub(super) fn damage(&mut self) {
         for situation in WAITING {
+            self.turn();
             self.set_up(situation);
             let kind = self.random.one_of(&ANSWERS);
             let count = self.random.below(MOST_AFTER_HEADER + 1);

@@ -6,6 +6,7 @@ use crate::call::Call;
 use crate::laptop::Candidate;
 use crate::messages::{ACK, LAST_POSITION, MOST_OBJECTS, SVIDS};
 use crate::pages::{page, PAGE_SVIDS};
+use crate::side::Side;
 
 const STEPS: usize = 2600;
 
@@ -16,7 +17,12 @@ impl Generator {
         }
     }
 
+    /// Of the side that waits, mostly, or of any.
     pub(super) fn drawn_step(&mut self) {
+        self.side = match self.run.laptop().awaited() {
+            Some(awaited) if !self.random.is_rare() => awaited.side,
+            _ => self.random.one_of(&Side::BOTH),
+        };
         match self.random.below(100) {
             0..70 => self.go_on(),
             70..78 => self.drawn_answer(),
@@ -29,7 +35,7 @@ impl Generator {
 
     /// The next event of an exchange.
     pub(super) fn go_on(&mut self) {
-        if self.run.laptop().awaited().is_none() {
+        if self.run.laptop().awaited_from(self.side).is_none() {
             self.drawn_call();
         } else if self.asked[self.side].command == SVIDS {
             self.drawn_page();
@@ -68,7 +74,7 @@ impl Generator {
         self.answer(ACK, &page(&svids, 0).objects);
     }
 
-    fn drawn_answer(&mut self) {
+    pub(super) fn drawn_answer(&mut self) {
         let kind = self.random.one_of(&ANSWERS);
         self.answer_well(kind);
     }

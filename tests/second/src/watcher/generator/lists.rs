@@ -4,10 +4,13 @@ use super::Generator;
 use crate::call::Call;
 use crate::messages::{ACK, BUSY, MOST_AFTER_HEADER, NAK};
 use crate::pages::{page, MOST_SVIDS, PAGE_SVIDS};
+use crate::side::Side;
 
 impl Generator {
-    pub(super) fn lists(&mut self) {
+    /// Each length on one side, which another seed gives to the other.
+    pub(super) fn lists(&mut self, seed: u64) {
         for length in 0..=MOST_SVIDS {
+            self.side = side_of_list(length, seed);
             self.whole_list(length);
         }
     }
@@ -65,5 +68,13 @@ fn page_count(length: usize) -> usize {
     match length {
         0 => 0,
         _ => length / PAGE_SVIDS + 1,
+    }
+}
+
+/// With an even seed the even lengths are the partner's, and with an odd one the cable's.
+pub fn side_of_list(length: usize, seed: u64) -> Side {
+    match length % 2 == seed as usize % 2 {
+        true => Side::Partner,
+        false => Side::Cable,
     }
 }

@@ -67,7 +67,7 @@ impl Generator {
         for situation in WAITING {
             for kind in ANSWERS {
                 self.set_up(situation);
-                let objects = self.good_objects(kind);
+                let objects = self.good_objects(self.asked[self.side].command, kind);
                 self.message(self.fitting(kind).with_reserved(), &objects);
                 self.next();
             }
@@ -80,6 +80,7 @@ impl Generator {
         for situation in WAITING {
             for timer in TIMERS {
                 for kind in ANSWERS {
+                    self.turn();
                     self.set_up(situation);
                     self.push(timer);
                     self.answer_well(kind);

@@ -2,12 +2,14 @@
 //! of every sort.
 
 use super::bad_pages::objects;
+use super::lists::side_of_list;
 use super::situation::{all_calls, IDLE, TIMERS, WAITING};
 use super::two_hundred::LASTS;
 use super::{Generator, ANSWERS};
 use crate::call::Call;
 use crate::messages::{ACK, LAST_POSITION, MOST_AFTER_HEADER};
 use crate::pages::{page, MOST_SVIDS, PAGE_SVIDS};
+use crate::side::Side;
 
 /// Streams of every length of a list come first, then those of about two hundred pages.
 const LISTS: usize = MOST_SVIDS + 1;
@@ -17,9 +19,13 @@ const SORTS: usize = 6;
 impl Generator {
     pub(super) fn short(&mut self, number: u64) {
         let number = number as usize;
+        self.interleaves = true;
         if number < LISTS {
+            self.side = side_of_list(number, 0);
             return self.whole_list(number);
         }
+        self.side = self.random.one_of(&Side::BOTH);
+        self.interleaves = self.random.below(2) == 0;
         if number < LONG {
             return self.about_two_hundred(number - LISTS);
         }
@@ -37,7 +43,12 @@ impl Generator {
     fn few_events(&mut self) {
         let situations = [&IDLE[..], &WAITING].concat();
         let situation = self.random.one_of(&situations);
-        let events = [all_calls(self.side), self.all_messages()].concat();
+        let events = [
+            all_calls(self.side),
+            all_calls(self.side.other()),
+            self.all_messages(),
+        ]
+        .concat();
         self.set_up(situation);
         for _ in 0..self.random.below(7) + 2 {
             let event = events[self.random.below(events.len())].clone();
@@ -47,7 +58,7 @@ impl Generator {
     }
 
     /// A wait ends, mostly by its timer or a protocol error, and its answer comes: before the next
-    /// request or after it, with its own answer behind it.
+    /// request, while the other side waits or not, or after it, with its own answer behind it.
     fn late_answer(&mut self) {
         let situation = self.random.one_of(&WAITING);
         self.set_up(situation);
@@ -56,13 +67,23 @@ impl Generator {
         let end = self.random.one_of(&[timer, Call::ProtocolError, drawn]);
         self.push(end);
         let kind = self.random.one_of(&ANSWERS);
-        if self.random.below(2) == 0 {
-            self.answer_well(kind);
+        match self.random.below(3) {
+            0 => {
+                self.answer_well(kind);
+            }
+            1 => self.late_while_other_waits(kind),
+            _ => {}
         }
         self.next();
         self.answer_well(kind);
         self.acknowledge();
         self.next();
+    }
+
+    fn late_while_other_waits(&mut self, kind: u8) {
+        self.push(Call::Next(self.side.other()));
+        self.answer_well(kind);
+        self.push(Call::ProtocolError);
     }
 
     /// A page with zeros, one that repeats SVIDs, or one that may take the total past 72.

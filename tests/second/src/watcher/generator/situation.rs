@@ -66,9 +66,9 @@ const NAMED_MODES: [(u16, u8); 8] = [
 ];
 
 impl Generator {
-    /// Every event but a message, in every situation.
+    /// Every event but a message, the owner's calls for both sides, in every situation.
     pub(super) fn calls_everywhere(&mut self) {
-        let calls = all_calls(self.side);
+        let calls = [all_calls(self.side), all_calls(self.side.other())].concat();
         for situation in IDLE.into_iter().chain(WAITING) {
             self.everything_in(situation, &calls);
         }

@@ -14,6 +14,7 @@ impl Generator {
     pub(super) fn two_hundred(&mut self) {
         let svids = self.svids_for_two_hundred();
         for last in lasts(&svids) {
+            self.turn();
             self.repeats(&svids, PAGES_BEFORE);
             self.page(&last);
             self.next();

@@ -28,7 +28,9 @@ impl Generator {
         self.set_up_of(side, idle);
         self.set_up_of(side.other(), others);
         let awaited = self.asked[side.other()];
+        self.unread();
         self.side = side;
+        self.unread();
         for event in all_calls(side)
             .into_iter()
             .filter(|event| event.side().is_some())
@@ -47,6 +49,19 @@ impl Generator {
         self.push(Call::timer(awaited.command));
         self.next();
         self.push(Call::ProtocolError);
+    }
+
+    /// A page that is not structured, and one of a version that is not read.
+    fn unread(&mut self) {
+        let page = Header::usual(SVIDS, ACK);
+        self.message(
+            Header {
+                structured: false,
+                ..page
+            },
+            &[0x0001_0000],
+        );
+        self.message(Header { major: 2, ..page }, &[0x0001_0000]);
     }
 
     /// The first page of 13 SVIDs comes late while the other side waits, and then the second.

@@ -7,5 +7,5 @@ pub mod generator;
 mod run;
 pub mod tally;
 
-pub use event::{put_streams, Event, Item};
+pub use event::{put_streams, Event, Item, Lengths};
 pub use run::{Outcome, Run};

@@ -71,7 +71,7 @@ impl Generator {
             0 => {
                 self.answer_well(kind);
             }
-            1 => self.late_while_other_waits(kind),
+            1 => self.late_while_other_waits(),
             _ => {}
         }
         self.next();
@@ -80,9 +80,9 @@ impl Generator {
         self.next();
     }
 
-    fn late_while_other_waits(&mut self, kind: u8) {
+    fn late_while_other_waits(&mut self) {
         self.push(Call::Next(self.side.other()));
-        self.answer_well(kind);
+        self.acknowledge();
         self.push(Call::ProtocolError);
     }
 

@@ -88,6 +88,16 @@ impl Call {
         }
     }
 
+    /// The same call for the other side, if it says one.
+    pub fn for_other_side(mut self) -> Self {
+        match &mut self {
+            Call::Next(side) | Call::StartOver(side) | Call::Drop(side) => *side = side.other(),
+            Call::Enter { side, .. } | Call::Exit { side, .. } => *side = side.other(),
+            _ => {}
+        }
+        self
+    }
+
     pub fn kind(&self) -> u8 {
         match self {
             Call::Next(side) => side.twin(NEXT),

@@ -8,7 +8,7 @@ use second::laptop_events::{Event, Outcome, Run};
 use second::lent_runs::LentRuns;
 use second::messages::Request;
 use second::random::Random;
-use second::refusals::AWAITING;
+use second::refusals::{ACCEPTED, AWAITING};
 use second::side::Side;
 
 const SVIDS: [u16; 3] = [1, 2, 0xFF00];
@@ -70,13 +70,13 @@ fn take(events: &[Event], observed: Side) -> Vec<(Past, OfSide)> {
     past.collect()
 }
 
-/// Without the other side's events, and without the own calls refused 7 because the other waited, all
-/// answers and states of the side are the same.
-fn assert_isolated(events: &[Event], side: Side) {
+/// Without the other side's events, and without the own calls that are left out, all answers and states
+/// of the side are the same.
+fn assert_isolated(events: &[Event], side: Side, is_left_out: fn(&Past) -> bool) {
     let whole = take(events, side);
     let own = whole.iter().filter(|(past, _)| {
         let is_own = past.side.is_none_or(|of| of == side);
-        is_own && !past.refused_for_other
+        is_own && !is_left_out(past)
     });
     let own: Vec<&(Past, OfSide)> = own.collect();
     let events: Vec<Event> = own.iter().map(|(past, _)| past.event.clone()).collect();
@@ -85,6 +85,12 @@ fn assert_isolated(events: &[Event], side: Side) {
         assert_eq!(past.outcome, past_alone.outcome, "{:?}", past.event);
         assert_eq!(state, state_alone, "{:?}", past.event);
     }
+}
+
+/// An owner's call that was refused, for whatever reason.
+fn is_refused_call(past: &Past) -> bool {
+    let is_owners = matches!(&past.event, Event::Call(call) if call.is_owners());
+    is_owners && past.outcome.refusal != ACCEPTED
 }
 
 /// 02's own form: up to the first own call that is refused 7 because the other side waits, the other
@@ -227,7 +233,8 @@ fn histories() -> impl Iterator<Item = Vec<Event>> {
 fn events_of_one_side_change_nothing_of_the_other() {
     for events in histories() {
         for side in Side::BOTH {
-            assert_isolated(&events, side);
+            assert_isolated(&events, side, |past| past.refused_for_other);
+            assert_isolated(&events, side, is_refused_call);
         }
     }
 }
@@ -245,7 +252,7 @@ fn while_no_own_call_is_refused_7_the_other_sides_events_alone_can_be_left_out()
 fn a_long_history_is_isolated_too() {
     let events = generate(3);
     for side in Side::BOTH {
-        assert_isolated(&events[..6000], side);
+        assert_isolated(&events[..6000], side, |past| past.refused_for_other);
     }
 }
 
@@ -309,11 +316,7 @@ fn swap_event(event: &Event) -> Event {
         | Event::Report { side, .. }
         | Event::WriteCatalogue { side, .. }
         | Event::Lengths { side, .. } => *side = side.other(),
-        Event::Call(Call::Next(side) | Call::StartOver(side) | Call::Drop(side)) => {
-            *side = side.other()
-        }
-        Event::Call(Call::Enter { side, .. } | Call::Exit { side, .. }) => *side = side.other(),
-        Event::Call(_) => {}
+        Event::Call(call) => *call = call.for_other_side(),
     }
     event
 }

@@ -1,6 +1,7 @@
 //! The laptop end, held against values worked out by hand from document 01.
 
 use crate::bench::{bytes, page_ack, Bench, Seen, IDENTITY_ACK, ROOM, RUN_WORDS, UNWRITTEN_WORD};
+use second::call::Call;
 use second::laptop::Candidate::{ListDone, ListOpen};
 use second::laptop::{Answer, Candidate, Laptop, Reason, Runs, Told};
 use second::messages::{read, Request};
@@ -38,6 +39,11 @@ fn exit(bench: &mut Bench, svid: u16, position: u8) -> Seen {
     bench.called(ROOM, |laptop, runs, out| {
         laptop.exit(Side::Partner, svid, position, runs, out)
     })
+}
+
+/// A call with a buffer of that room.
+fn call_in(bench: &mut Bench, room: usize, call: Call) -> Seen {
+    bench.called(room, |laptop, runs, out| call.make(laptop, runs, out))
 }
 
 /// A timer or a protocol error.
@@ -658,18 +664,12 @@ fn a_short_run_is_refused_11_before_all_else() {
 
 #[test]
 fn a_short_buffer_is_refused_11_after_all_else() {
+    let side = Side::Partner;
     for room in 0..4 {
         for bench in [Bench::fresh(), Bench::open(), Bench::listed(13)] {
-            refused(&bench, 11, |bench| {
-                bench.called(room, |laptop, runs, out| {
-                    laptop.next(Side::Partner, runs, out)
-                })
-            });
-            refused(&bench, 11, |bench| {
-                bench.called(room, |laptop, runs, out| {
-                    laptop.start_over(Side::Partner, runs, out)
-                })
-            });
+            for asking in [Call::Next(side), Call::StartOver(side)] {
+                refused(&bench, 11, |bench| call_in(bench, room, asking));
+            }
         }
         let numbers = [
             (1, 1, 13, 11),
@@ -677,27 +677,25 @@ fn a_short_buffer_is_refused_11_after_all_else() {
             (1, 3, 12, 12),
             (2, 7, 12, 13),
         ];
-        for (svid, position, enter, exit) in numbers {
-            refused(&entered(), enter, |bench| {
-                bench.called(room, |laptop, runs, out| {
-                    laptop.enter(Side::Partner, svid, position, runs, out)
-                })
-            });
-            refused(&entered(), exit, |bench| {
-                bench.called(room, |laptop, runs, out| {
-                    laptop.exit(Side::Partner, svid, position, runs, out)
-                })
-            });
+        for (svid, position, of_enter, of_exit) in numbers {
+            let enter = Call::Enter {
+                side,
+                svid,
+                position,
+            };
+            let exit = Call::Exit {
+                side,
+                svid,
+                position,
+            };
+            refused(&entered(), of_enter, |bench| call_in(bench, room, enter));
+            refused(&entered(), of_exit, |bench| call_in(bench, room, exit));
         }
         for (bench, _) in waits() {
-            refused(&bench, 7, |bench| {
-                bench.called(room, |laptop, runs, out| {
-                    laptop.next(Side::Partner, runs, out)
-                })
-            });
+            refused(&bench, 7, |bench| call_in(bench, room, Call::Next(side)));
         }
     }
     let mut bench = Bench::fresh();
-    let seen = bench.called(4, |laptop, runs, out| laptop.next(Side::Partner, runs, out));
+    let seen = call_in(&mut bench, 4, Call::Next(side));
     assert_eq!(seen, sent(ASK_IDENTITY));
 }

@@ -1,6 +1,7 @@
 //! Streams with bit 5 of each message's header the other way round: the answers are the same.
 
 use second::messages::{flip_reserved, flip_reserved_of, has_reserved};
+use second::side::Side;
 use second::{dock_events, laptop_events, vectors, watcher};
 
 const SEEDS: [u64; 3] = [1, 2, u64::MAX];
@@ -92,5 +93,22 @@ fn the_laptop_answers_the_same() {
         hold_same(streams, |input, output| {
             laptop_events::answers::print_answers(input, output)
         });
+    }
+}
+
+#[test]
+fn a_message_of_either_side_is_flipped() {
+    for side in Side::BOTH {
+        let objects = vec![0xFF00_A041, 1, 2, 3];
+        let watched = watcher::Event::Message { side, objects };
+        let watcher::Event::Message { objects, .. } = watched.with_reserved_flipped() else {
+            panic!("a message stays one");
+        };
+        assert_eq!(objects, [0xFF00_A061, 1, 2, 3]);
+        let bytes = vec![0x41, 0xA0, 0x00, 0xFF];
+        let event = laptop_events::Event::Message { side, bytes };
+        let bytes = vec![0x61, 0xA0, 0x00, 0xFF];
+        let flipped = laptop_events::Event::Message { side, bytes };
+        assert_eq!(event.with_reserved_flipped(), flipped);
     }
 }

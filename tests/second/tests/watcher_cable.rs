@@ -109,8 +109,7 @@ fn every_call_of_the_cable_after_case_l() {
         &cable(&[0xFF01_A145]),
         &[0xC1],
         &cable(&IDENTITY),
-        &[0xC2],
-        &[0xC0],
+        &[0xC2, 0xC0],
     ]
     .concat();
     let lines = "7 12 - 0 -\n\

@@ -2,7 +2,7 @@
 
 use crate::call::Call;
 use crate::laptop::{Candidate, Laptop, Reason, Told};
-use crate::messages::{read, ACK, REQ, SVIDS};
+use crate::messages::{read, Message, ACK, REQ, SVIDS};
 use crate::refusals::{ACCEPTED, AWAITING, NOT_AWAITED, SHORT_RUN};
 use crate::side::Side;
 
@@ -47,21 +47,26 @@ fn names_of(side: Side) -> Vec<String> {
 
 impl Step<'_> {
     pub fn of_message(&self, side: Side, bytes: &[u8]) -> Vec<String> {
-        let other_waits = self.before.awaited_from(side.other());
-        let is_refused = self.refusal == NOT_AWAITED;
-        let message = read(bytes).ok().filter(|message| message.kind != REQ);
-        let (mut fits_other, mut is_page) = (false, false);
-        if let (Some(message), true) = (message, is_refused) {
-            fits_other = other_waits == Some(message.request());
-            is_page = (message.command, message.kind) == (SVIDS, ACK);
-        }
-        let was_open = is_open(self.before, side) && !is_open(self.after, side);
         let mut names = self.of_any();
-        names.extend(fits_other.then(|| answer_for_other(side)));
-        let drops = is_page && was_open && other_waits.is_some();
-        names.extend(drops.then(|| late_page(side)));
+        let answer = read(bytes).ok().filter(|message| message.kind != REQ);
+        if let Some(answer) = answer.filter(|_| self.refusal == NOT_AWAITED) {
+            names.extend(self.of_refused_answer(side, &answer));
+        }
         names.extend(self.publishing(side));
         names
+    }
+
+    /// An answer refused 6, while the other side waits.
+    fn of_refused_answer(&self, side: Side, answer: &Message) -> Vec<String> {
+        let Some(awaited) = self.before.awaited_from(side.other()) else {
+            return Vec::new();
+        };
+        let fits_other = awaited == answer.request();
+        let is_page = (answer.command, answer.kind) == (SVIDS, ACK);
+        let drops = is_page && is_open(self.before, side) && !is_open(self.after, side);
+        let fitting = fits_other.then(|| answer_for_other(side));
+        let dropping = drops.then(|| late_page(side));
+        fitting.into_iter().chain(dropping).collect()
     }
 
     pub fn of_call(&self, call: Call) -> Vec<String> {

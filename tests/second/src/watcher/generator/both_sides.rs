@@ -17,7 +17,7 @@ impl Generator {
                 self.while_other_waits(side, idle, situation);
                 self.while_other_waits(side, Situation::PageGathered, situation);
             }
-            self.confirmed_page_ignored_by_none(side);
+            self.late_first_page(side);
             self.asked_while_other_is_entered(side);
             self.entered_while_other_gathers(side);
         }
@@ -31,11 +31,8 @@ impl Generator {
         self.unread();
         self.side = side;
         self.unread();
-        for event in all_calls(side)
-            .into_iter()
-            .filter(|event| event.side().is_some())
-        {
-            if self.random.below(4) == 0 {
+        for event in all_calls(side) {
+            if event.side().is_some() && self.random.below(4) == 0 {
                 self.push(event);
             }
         }
@@ -65,7 +62,7 @@ impl Generator {
     }
 
     /// The first page of 13 SVIDs comes late while the other side waits, and then the second.
-    fn confirmed_page_ignored_by_none(&mut self, side: Side) {
+    fn late_first_page(&mut self, side: Side) {
         let thirteen: Vec<u16> = (1..=13).collect();
         self.set_up_of(side, Situation::ListOpen);
         self.next();

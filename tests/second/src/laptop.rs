@@ -11,6 +11,7 @@ use crate::messages::{Message, Request};
 use crate::refusals::{NOT_HELD, SHORT_RUN};
 use crate::side::{Side, Sides};
 use side_state::SideState;
+use std::collections::BTreeMap;
 
 pub const MOST_PAGES: usize = 200;
 
@@ -120,6 +121,11 @@ impl Laptop {
 
     pub fn page_count(&self, side: Side) -> usize {
         self.states[side].page_count
+    }
+
+    /// The set of entered positions of each SVID that has had one.
+    pub fn entered(&self, side: Side) -> &BTreeMap<u16, u8> {
+        &self.states[side].entered
     }
 
     /// The report: how many modes of the SVID are entered.

@@ -5,13 +5,20 @@ use second::link_events::generator::{generate, stored_stream, STREAMS};
 use second::link_events::tally::{all, Tally};
 use second::link_events::{put_streams, Data, Event, Item, Start};
 
-const HEADING: &str = "stream event permitted refusal pages candidate held catalogue page lost\n";
-const KNOWN: [u8; 16] = [
-    0x40, 0x41, 0x42, 0x43, 0x46, 0x47, 0x48, 0x50, 0x51, 0x52, 0x53, 0x54, 0x55, 0x56, 0x57, 0x58,
+const HEADING: &str =
+    "stream event side permitted refusal pages candidate held catalogue page lost \
+    other_pages other_candidate other_held\n";
+/// The partner's kinds, each of which has a cable twin.
+const TWINNED: [u8; 13] = [
+    0x40, 0x41, 0x42, 0x47, 0x48, 0x50, 0x51, 0x52, 0x53, 0x54, 0x55, 0x56, 0x57,
 ];
+/// The timer, a protocol error and a new stream.
+const ALONE: [u8; 3] = [0x43, 0x46, 0x58];
+const CABLE: u8 = 0x80;
 const NEW_STREAM: u8 = 0x58;
 const DROP: u8 = 0x42;
 const TIMER: u8 = 0x43;
+const PROTOCOL_ERROR: u8 = 0x46;
 const ENTER: [u8; 4] = [0x47, 0x01, 0xFF, 1];
 /// Next, reaches, gives, arrives, sent.
 const EXCHANGE: [u8; 5] = [0x40, 0x50, 0x52, 0x54, 0x56];
@@ -24,20 +31,20 @@ fn answers(mut stream: &[u8]) -> String {
     String::from_utf8(output).unwrap()
 }
 
-/// The heading, and these lines: those of an event with the number of their stream, 1, before it.
+/// The heading, and these lines: those of an event have the number of their stream, 1, their side
+/// and a cable of which nothing happens filled in.
 fn printed_lines(lines: &str) -> String {
-    let lines = lines.split_inclusive('\n');
-    let lines = lines.map(
-        |line| match line.starts_with(|first: char| first.is_ascii_digit()) {
-            true => format!("1 {line}"),
-            false => line.to_string(),
-        },
-    );
+    let lines = lines.lines().map(|line| match line.split_once(' ') {
+        Some((event, fields)) if event.parse::<usize>().is_ok() => {
+            format!("1 {event} partner {fields} 0 none -\n")
+        }
+        _ => format!("{line}\n"),
+    });
     [HEADING.to_string()].into_iter().chain(lines).collect()
 }
 
 /// Identity 7, 8, 9 and these SVIDs with one mode each; the dock on that page, the old or none.
-fn start(svids: &[u16], mode: u32, page: u8, old: u8) -> Vec<u8> {
+fn side_start(svids: &[u16], mode: u32, page: u8, old: u8) -> Vec<u8> {
     let mut bytes = vec![3, 7, 0, 0, 0, 8, 0, 0, 0, 9, 0, 0, 0, svids.len() as u8];
     bytes.extend(svids.iter().flat_map(|svid| svid.to_le_bytes()));
     for _ in svids {
@@ -46,6 +53,16 @@ fn start(svids: &[u16], mode: u32, page: u8, old: u8) -> Vec<u8> {
     }
     bytes.extend([page, old]);
     bytes
+}
+
+/// This is the partner's; the cable has an empty list, and the laptop nothing of it.
+fn start(svids: &[u16], mode: u32, page: u8, old: u8) -> Vec<u8> {
+    [side_start(svids, mode, page, old), side_start(&[], 0, 0, 0)].concat()
+}
+
+/// The cable's twin of each kind of the partner's.
+fn twins(kinds: &[u8]) -> Vec<u8> {
+    kinds.iter().map(|kind| kind + CABLE).collect()
 }
 
 /// Case L's SVID and mode.
@@ -90,6 +107,60 @@ fn every_form_of_line_is_as_agreed() {
     assert_eq!(answers(&stream), printed_lines(lines));
 }
 
+/// The cable holds the old catalogue; both ask, and a timer or protocol error is of the one that waits.
+#[test]
+fn lines_of_both_sides_are_as_agreed() {
+    let start = [
+        side_start(&[0xFF01], 0x405, 0, 0),
+        side_start(&[1, 2], 0xA, 0, 1),
+    ];
+    let asked = [0xC0, 0x40, TIMER, TIMER, PROTOCOL_ERROR];
+    let late = [0x40, 0x50, 0x52, PROTOCOL_ERROR, 0xC0, 0x54, 0xC2];
+    let opened = [&twins(&EXCHANGE)[..], &EXCHANGE, &late, &[TIMER]].concat();
+    let lines = "1 1 cable permitted 0 0 none 1 E3C0FFF3 0 0 0 none -\n\
+        1 2 partner permitted 7 0 none - - 0 0 0 none 1\n\
+        1 3 cable permitted 0 0 none 1 E3C0FFF3 0 0 0 none -\n\
+        1 4 partner - - 0 none - - 0 0 0 none 1\n\
+        1 5 partner permitted 9 0 none - - 0 0 0 none 1\n\
+        1 6 cable permitted 0 0 none 1 E3C0FFF3 0 0 0 none -\n\
+        1 7 cable permitted 0 0 none 1 E3C0FFF3 0 0 0 none -\n\
+        1 8 cable permitted 0 0 none 1 E3C0FFF3 0 0 0 none -\n\
+        1 9 cable permitted 0 0 open:0 1 E3C0FFF3 0 0 0 none -\n\
+        1 10 cable permitted 0 0 open:0 1 E3C0FFF3 0 0 0 none -\n\
+        1 11 partner permitted 0 0 none - - 0 0 0 open:0 1\n\
+        1 12 partner permitted 0 0 none - - 0 0 0 open:0 1\n\
+        1 13 partner permitted 0 0 none - - 0 0 0 open:0 1\n\
+        1 14 partner permitted 0 0 open:0 - - 0 0 0 open:0 1\n\
+        1 15 partner permitted 0 0 open:0 - - 0 0 0 open:0 1\n\
+        1 16 partner permitted 0 0 open:0 - - 0 0 0 open:0 1\n\
+        1 17 partner permitted 0 0 open:0 - - 0 0 0 open:0 1\n\
+        1 18 partner permitted 0 0 open:0 - - 0 0 0 open:0 1\n\
+        1 19 partner permitted 0 0 open:0 - - 0 0 0 open:0 1\n\
+        1 20 cable permitted 0 0 open:0 1 E3C0FFF3 0 0 0 open:0 -\n\
+        1 21 partner permitted 6 0 none - - 0 0 0 open:0 1\n\
+        1 22 cable permitted 7 0 open:0 1 E3C0FFF3 0 0 0 none -\n\
+        1 23 cable permitted 0 0 open:0 1 E3C0FFF3 0 0 0 none -\n\
+        end 23 events\n";
+    let stream = [start.concat(), asked.to_vec(), opened].concat();
+    assert_eq!(answers(&stream), [HEADING, lines].concat());
+}
+
+#[test]
+fn the_cable_s_lines_are_the_partner_s_with_the_sides_exchanged() {
+    let [partner, cable] = [
+        side_start(&[0xFF01], 0x405, 0, 1),
+        side_start(&[1, 2], 0xA, 0, 0),
+    ];
+    let events = [EXCHANGE.repeat(3), vec![0x40, TIMER]].concat();
+    let printed = answers(&[&partner[..], &cable, &events].concat());
+    let kinds = events.iter().map(|&kind| match kind {
+        TIMER => TIMER,
+        kind => kind + CABLE,
+    });
+    let exchanged = [cable, partner, kinds.collect()].concat();
+    assert_eq!(answers(&exchanged), printed.replace("partner", "cable"));
+}
+
 #[test]
 fn case_11_has_one_confirmation_lost_and_three_pages() {
     let svids: Vec<u16> = (1..=13).collect();
@@ -97,15 +168,36 @@ fn case_11_has_one_confirmation_lost_and_three_pages() {
     let stream = [start(&svids, 0xA, 5, 0), pages, EXCHANGE.repeat(13)].concat();
     let printed = answers(&stream);
     let lines: Vec<&str> = printed.lines().collect();
-    assert_eq!(lines[1], "1 1 permitted 0 0 none - - 1 0");
-    assert_eq!(lines[2], "1 2 permitted 0 0 none - - 0 0");
-    assert_eq!(lines[9], "1 9 permitted 0 1 open:12 - - 0 0");
-    assert_eq!(lines[10], "1 10 permitted 0 1 open:12 - - 0 1");
-    assert_eq!(lines[14], "1 14 permitted 0 2 open:12 - - 0 1");
-    assert_eq!(lines[15], "1 15 permitted 0 2 open:12 - - 1 1");
-    assert_eq!(lines[19], "1 19 permitted 0 3 done:13:0 - - 1 1");
-    assert_eq!(lines[83], "1 83 permitted 0 3 done:13:12 - - 1 1");
-    assert_eq!(lines[84], "1 84 permitted 0 3 none 13 C8C7028F 1 1");
+    assert_eq!(lines[1], "1 1 partner permitted 0 0 none - - 1 0 0 none -");
+    assert_eq!(lines[2], "1 2 partner permitted 0 0 none - - 0 0 0 none -");
+    assert_eq!(
+        lines[9],
+        "1 9 partner permitted 0 1 open:12 - - 0 0 0 none -"
+    );
+    assert_eq!(
+        lines[10],
+        "1 10 partner permitted 0 1 open:12 - - 0 1 0 none -"
+    );
+    assert_eq!(
+        lines[14],
+        "1 14 partner permitted 0 2 open:12 - - 0 1 0 none -"
+    );
+    assert_eq!(
+        lines[15],
+        "1 15 partner permitted 0 2 open:12 - - 1 1 0 none -"
+    );
+    assert_eq!(
+        lines[19],
+        "1 19 partner permitted 0 3 done:13:0 - - 1 1 0 none -"
+    );
+    assert_eq!(
+        lines[83],
+        "1 83 partner permitted 0 3 done:13:12 - - 1 1 0 none -"
+    );
+    assert_eq!(
+        lines[84],
+        "1 84 partner permitted 0 3 none 13 C8C7028F 1 1 0 none -"
+    );
     assert_eq!(lines[86], "end 85 events");
 }
 
@@ -113,7 +205,7 @@ fn case_11_has_one_confirmation_lost_and_three_pages() {
 fn an_empty_list_is_held_after_its_nak() {
     let stream = [start(&[], 0, 0, 0), EXCHANGE.repeat(2)].concat();
     let printed = answers(&stream);
-    let last = "1 10 permitted 0 0 none 0 414E757C 0 0\nend 10 events\n";
+    let last = "1 10 partner permitted 0 0 none 0 414E757C 0 0 0 none -\nend 10 events\n";
     assert!(printed.ends_with(last));
 }
 
@@ -123,17 +215,14 @@ fn a_start_without_events_ends_at_once() {
 }
 
 #[test]
-fn data_that_is_cut_or_breaks_a_limit_is_bad() {
+fn data_of_either_side_that_is_cut_or_breaks_a_limit_is_bad() {
     let bad = [HEADING, "bad dock data\n"].concat();
     for length in 0..one().len() {
         assert_eq!(answers(&one()[..length]), bad);
     }
-    let seventy_three: Vec<u16> = (1..=73).collect();
-    for svids in [&[0][..], &[5, 0], &[5, 5], &seventy_three] {
-        assert_eq!(answers(&start(svids, 1, 0, 0)), bad);
-    }
-    let [identity, modes, old] = [0, 16, one().len() - 1];
-    assert_eq!(one()[modes - 2..=modes], [0x01, 0xFF, 1]);
+    let side = side_start(&[0xFF01], 0x405, 0, 0);
+    let [identity, modes, old] = [0, 16, side.len() - 1];
+    assert_eq!(side[modes - 2..=modes], [0x01, 0xFF, 1]);
     let bytes = [
         (identity, 2),
         (identity, 7),
@@ -141,17 +230,27 @@ fn data_that_is_cut_or_breaks_a_limit_is_bad() {
         (modes, 7),
         (old, 2),
     ];
-    for (place, byte) in bytes {
-        let mut stream = one();
-        stream[place] = byte;
-        stream.extend([1; 64]);
-        assert_eq!(answers(&stream), bad);
+    let broken = bytes.map(|(place, byte)| {
+        let mut side = side.clone();
+        side[place] = byte;
+        side
+    });
+    let seventy_three: Vec<u16> = (1..=73).collect();
+    let lists = [&[0][..], &[5, 0], &[5, 5], &seventy_three];
+    let lists = lists.map(|svids| side_start(svids, 1, 0, 0));
+    for broken in broken.iter().chain(&lists) {
+        for [partner, cable] in [[broken, &side], [&side, broken]] {
+            let stream = [&partner[..], cable, &[1; 64]].concat();
+            assert_eq!(answers(&stream), bad);
+        }
     }
 }
 
 #[test]
 fn any_other_kind_is_unknown_and_stops_the_answers() {
-    for kind in (0..=u8::MAX).filter(|kind| !KNOWN.contains(kind)) {
+    let known = [&TWINNED[..], &twins(&TWINNED), &ALONE].concat();
+    assert_eq!(known.len(), 29);
+    for kind in (0..=u8::MAX).filter(|kind| !known.contains(kind)) {
         let printed = answers(&[&one()[..], &[DROP, kind, DROP]].concat());
         let lines = "1 permitted 0 0 none - - 0 0\nunknown kind after 1 events\n";
         assert_eq!(printed, printed_lines(lines));
@@ -160,7 +259,7 @@ fn any_other_kind_is_unknown_and_stops_the_answers() {
 
 #[test]
 fn an_event_cut_anywhere_stops_the_answers() {
-    for kind in [0x47, 0x48] {
+    for kind in [0x47, 0x48, 0xC7, 0xC8] {
         for length in 1..4 {
             let event = [kind, 0x01, 0xFF, 1];
             let printed = answers(&[&one()[..], &[DROP], &event[..length]].concat());
@@ -173,7 +272,7 @@ fn an_event_cut_anywhere_stops_the_answers() {
 #[test]
 fn the_input_counts_as_ended_after_a_million() {
     let printed = answers(&[one(), vec![DROP; 1_000_001]].concat());
-    let last = "\n1 1000000 permitted 0 0 none - - 0 0\nend 1000000 events\n";
+    let last = "\n1 1000000 partner permitted 0 0 none - - 0 0 0 none -\nend 1000000 events\n";
     assert!(printed.ends_with(last));
 }
 
@@ -188,8 +287,8 @@ fn a_new_stream_has_its_own_start_and_counts_its_events_anew() {
     ]
     .concat();
     let printed = answers(&streams);
-    assert!(printed.contains("\n1 10 permitted 0 0 none 0 414E757C 0 0\n3 1 permitted"));
-    let last = "\n3 1 permitted 0 1 none 1 E3C0FFF3 0 0\nend 11 events\n";
+    assert!(printed.contains(" 0 0 none 0 414E757C 0 0 0 none -\n3 1 partner permitted"));
+    let last = "\n3 1 partner permitted 0 1 none 1 E3C0FFF3 0 0 0 none -\nend 11 events\n";
     assert!(printed.ends_with(last));
 }
 
@@ -215,7 +314,7 @@ fn stored_streams_are_many_and_leave_nothing_out() {
     put_streams(&streams, &mut bytes).unwrap();
     let events: usize = streams.iter().map(|(_, events)| events.len()).sum();
     let printed = answers(&bytes);
-    assert!(printed.len() <= 5_500_000);
+    assert!(events <= 125_000 && printed.len() <= 7_500_000);
     assert!(printed.ends_with(&format!("\nend {events} events\n")));
 }
 

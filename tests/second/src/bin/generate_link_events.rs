@@ -31,7 +31,7 @@ fn main() -> Result<ExitCode, Box<dyn Error>> {
     let expected = match asked {
         Asked::Stored => all(),
         Asked::Stream(_) => Vec::new(),
-        Asked::Seed(_) => of_one_stream(streams[0].0.data.svids.len()),
+        Asked::Seed(_) => of_one_stream(&streams[0].0),
     };
     Ok(print(&bytes, counts, &tally.missing(&expected))?)
 }

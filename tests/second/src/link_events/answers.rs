@@ -7,7 +7,8 @@ use crate::side::Side;
 use crate::stream::{print_lines, Place, Stop};
 use std::io::{self, BufRead, Write};
 
-const HEADING: &str = "stream event permitted refusal pages candidate held catalogue page lost";
+const HEADING: &str = "stream event side permitted refusal \
+    pages candidate held catalogue page lost other_pages other_candidate other_held";
 
 /// A stream under its events so far.
 struct Course {
@@ -26,10 +27,11 @@ pub fn print_answers(input: &mut impl BufRead, output: &mut impl Write) -> io::R
             none => none.insert(Course::begin(Place::FIRST, input)?),
         };
         let event = course.take_event(input)?;
+        let side = course.system.side_of(&event);
         let outcome = course.system.take(&event);
-        print_answer(course, outcome, output)?;
-        let observed = Observed::of(&course.system);
-        let check = course.demand.check(&event, outcome, observed);
+        print_answer(course, side, outcome, output)?;
+        let observed = Observed::of_both(&course.system);
+        let check = course.demand.check(side, &event, outcome, &observed);
         Ok(check.or_else(|broken| report_broken(course.place, broken, output))?)
     })
 }
@@ -60,7 +62,12 @@ impl Course {
     }
 }
 
-fn print_answer(course: &Course, outcome: Outcome, output: &mut impl Write) -> io::Result<()> {
+fn print_answer(
+    course: &Course,
+    side: Side,
+    outcome: Outcome,
+    output: &mut impl Write,
+) -> io::Result<()> {
     let permitted = if outcome.permitted {
         "permitted"
     } else {
@@ -68,13 +75,23 @@ fn print_answer(course: &Course, outcome: Outcome, output: &mut impl Write) -> i
     };
     let Course { place, system, .. } = course;
     let refusal = or_nothing(outcome.refusal.map(|refusal| refusal.to_string()));
-    let pages = system.laptop().page_count(Side::Partner);
-    let candidate = fields::candidate(system.laptop().candidate(Side::Partner));
-    write!(output, "{place} {permitted} {refusal} {pages} {candidate}")?;
-    let held = fields::held_count(system.laptop(), Side::Partner);
-    let catalogue = or_nothing(system.held_bytes().as_deref().map(fields::digest_of));
-    let (page, lost) = (system.dock().page(), system.confirmations_lost());
-    writeln!(output, " {held} {catalogue} {page} {lost}")
+    write!(output, "{place} {side} {permitted} {refusal} ")?;
+    print_gathering(system, side, output)?;
+    let catalogue = or_nothing(system.held_bytes(side).as_deref().map(fields::digest_of));
+    let far_end = system.far_end(side);
+    let (page, lost) = (far_end.dock().page(), far_end.confirmations_lost());
+    write!(output, " {catalogue} {page} {lost} ")?;
+    print_gathering(system, side.other(), output)?;
+    writeln!(output)
+}
+
+/// The page count, the candidate and the number of held SVIDs of a side.
+fn print_gathering(system: &System, side: Side, output: &mut impl Write) -> io::Result<()> {
+    let laptop = system.laptop();
+    let pages = laptop.page_count(side);
+    let candidate = fields::candidate(laptop.candidate(side));
+    let held = fields::held_count(laptop, side);
+    write!(output, "{pages} {candidate} {held}")
 }
 
 fn report_broken(place: Place, broken: &str, output: &mut impl Write) -> io::Result<()> {

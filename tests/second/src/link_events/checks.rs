@@ -1,26 +1,25 @@
-//! Demand 3, checked at every event: what is held is the old catalogue or the dock's whole one; each
-//! new answer lowers the number still needed by 1, and what is held changes when it comes to 0 and
-//! then only; and the pages are as many as they must be.
+//! Demand 3 on both sides (02, R-4), checked at every event: on the side that the event concerns it
+//! is the demand of one side, and of the other side nothing changes.
 
-use super::needed::{Arrival, Needed};
-use super::{Event, Outcome, System};
-use crate::call::Call;
+mod one_side;
+
+use super::{Event, FarEnd, Outcome, System};
 use crate::laptop::Candidate;
-use crate::messages::{read, Request, IDENTITY};
-use crate::pages::PAGE_SVIDS;
-use crate::refusals::{ACCEPTED, NOT_WHOLE_OBJECTS, VOIDED, WRONG_SHAPE};
-use crate::side::Side;
+use crate::lent_runs::LentRuns;
+use crate::messages::Request;
+use crate::refusals::AWAITING;
+use crate::side::{Side, Sides};
+use one_side::SideDemand;
+use std::collections::BTreeMap;
 
-pub const REFUSED_UNFAIRLY: &str = "a fair message was refused 1 to 5, or 8";
-pub const NEITHER_OLD_NOR_WHOLE: &str = "what is held is neither the old catalogue nor the whole";
-pub const NOT_PUBLISHED: &str = "the last answer needed did not make the whole catalogue held";
-pub const CHANGED_EARLY: &str = "what is held changed without the last answer needed";
-pub const NOT_LOWERED: &str = "a new answer did not lower the number still needed by 1";
-pub const WRONG_LIST: &str = "the list has come whole, and what is gathered is another";
-pub const WRONG_SUM: &str = "the page count is not pages and confirmations lost";
-pub const ENDED_UNFINISHED: &str = "a gathering ended unfinished without a reason";
+pub use one_side::{
+    CHANGED_EARLY, ENDED_UNFINISHED, NEITHER_OLD_NOR_WHOLE, NOT_LOWERED, NOT_PUBLISHED,
+    REFUSED_UNFAIRLY, WRONG_LIST, WRONG_SUM,
+};
+pub const OTHER_SIDE_CHANGED: &str = "an event of one side changed the other";
+pub const CHANGED_BY_REFUSED: &str = "a call changed its side though the other waits";
 
-/// What the demand speaks of, at one moment.
+/// What there is of a side, at one moment.
 #[derive(Clone, Debug, PartialEq, Eq)]
 pub struct Observed {
     /// The held catalogue's bytes.
@@ -31,153 +30,68 @@ pub struct Observed {
     pub answer: Option<Vec<u8>>,
     pub page_count: usize,
     pub confirmations_lost: usize,
+    /// A set bit for each entered position, by SVID.
+    pub entered: BTreeMap<u16, u8>,
+    pub runs: LentRuns,
+    pub far_end: FarEnd,
 }
 
 pub struct Demand {
-    old: Option<Vec<u8>>,
-    whole: Vec<u8>,
-    svids: Vec<u16>,
-    needed: Needed,
-    last: Observed,
+    sides: Sides<SideDemand>,
 }
 
 impl Observed {
-    pub fn of(system: &System) -> Self {
+    pub fn of(system: &System, side: Side) -> Self {
+        let (laptop, far_end) = (system.laptop(), system.far_end(side));
         Observed {
-            held: system.held_bytes(),
-            candidate: system.laptop().candidate(Side::Partner).clone(),
-            awaited: system.laptop().awaited_from(Side::Partner),
-            answer: system.link().answer().map(<[u8]>::to_vec),
-            page_count: system.laptop().page_count(Side::Partner),
-            confirmations_lost: system.confirmations_lost(),
+            held: system.held_bytes(side),
+            candidate: laptop.candidate(side).clone(),
+            awaited: laptop.awaited_from(side),
+            answer: far_end.link().answer().map(<[u8]>::to_vec),
+            page_count: laptop.page_count(side),
+            confirmations_lost: far_end.confirmations_lost(),
+            entered: laptop.entered(side).clone(),
+            runs: system.runs(side).clone(),
+            far_end: far_end.clone(),
         }
     }
 
-    fn awaits_identity(&self) -> bool {
-        self.awaited
-            .is_some_and(|request| request.command == IDENTITY)
+    pub fn of_both(system: &System) -> Sides<Self> {
+        Sides::each(|side| Self::of(system, side))
     }
 }
 
 impl Demand {
     pub fn of(system: &System) -> Self {
-        let last = Observed::of(system);
         Demand {
-            old: last.held.clone(),
-            whole: system.data().catalogue_bytes(),
-            svids: system.data().svids.clone(),
-            needed: Needed::by(system.data()),
-            last,
+            sides: Sides::each(|side| SideDemand::of(system, side)),
         }
     }
 
-    /// How many answers the gathering still needs.
-    pub fn still_needed(&self) -> usize {
-        self.needed.number()
+    /// How many answers the side's gathering still needs.
+    pub fn still_needed(&self, side: Side) -> usize {
+        self.sides[side].still_needed()
     }
 
-    /// The demand on an event that led from what was last observed to `now`, or what breaks it.
+    /// The demand on an event that concerns this side and led from what was last observed to `now`,
+    /// or what breaks it. A call refused 7 because the other side waits is no part of the history.
     pub fn check(
         &mut self,
+        side: Side,
         event: &Event,
         outcome: Outcome,
-        now: Observed,
+        now: &Sides<Observed>,
     ) -> Result<(), &'static str> {
-        let before = std::mem::replace(&mut self.last, now);
-        check_refusal(outcome)?;
-        let was_needed = self.still_needed();
-        let arrival = self.receive(event, outcome, &before);
-        let is_needed = self.still_needed();
-        if arrival == Arrival::New && is_needed + 1 != was_needed {
-            return Err(NOT_LOWERED);
-        }
-        let completes = was_needed > 0 && is_needed == 0;
-        self.check_held(&before, completes)?;
-        self.check_list()?;
-        self.check_sum()?;
-        let may_end = arrival == Arrival::Ends || is_given_up(event, outcome);
-        if was_needed > 0 && !completes && !may_end {
-            self.check_goes_on(&before, is_needed > was_needed)?;
-        }
-        Ok(())
-    }
-
-    /// Adds what has come with the event.
-    fn receive(&mut self, event: &Event, outcome: Outcome, before: &Observed) -> Arrival {
-        match event {
-            Event::AnswerArrives => {
-                let answer = before.answer.as_deref().and_then(|bytes| read(bytes).ok());
-                answer.map_or(Arrival::Other, |message| {
-                    self.needed.arrive(before.awaited, &message)
-                })
-            }
-            Event::Call(call) if outcome.refusal == Some(ACCEPTED) => {
-                let goes_out = self.last.awaits_identity() && before.awaited.is_none();
-                if matches!(call, Call::Drop(_)) || goes_out {
-                    self.needed.begin_anew();
-                }
-                Arrival::Other
-            }
-            _ => Arrival::Other,
-        }
-    }
-
-    fn check_held(&self, before: &Observed, completes: bool) -> Result<(), &'static str> {
-        let held = &self.last.held;
-        let is_whole = held.as_ref() == Some(&self.whole);
-        if *held != self.old && !is_whole {
-            Err(NEITHER_OLD_NOR_WHOLE)
-        } else if completes && !is_whole {
-            Err(NOT_PUBLISHED)
-        } else if !completes && *held != before.held {
-            Err(CHANGED_EARLY)
+        let other = side.other();
+        let is_left_out = outcome.refusal == Some(AWAITING) && self.sides[other].waits();
+        if now[other] != *self.sides[other].last() {
+            Err(OTHER_SIDE_CHANGED)
+        } else if !is_left_out {
+            self.sides[side].check(event, outcome, now[side].clone())
+        } else if now[side] != *self.sides[side].last() {
+            Err(CHANGED_BY_REFUSED)
         } else {
             Ok(())
         }
     }
-
-    /// Once the list has come whole, until all modes have.
-    fn check_list(&self) -> Result<(), &'static str> {
-        if self.needed.is_listing() || self.still_needed() == 0 {
-            return Ok(());
-        }
-        match &self.last.candidate {
-            Candidate::ListDone(gathered) if gathered.svids == self.svids => Ok(()),
-            _ => Err(WRONG_LIST),
-        }
-    }
-
-    /// Once a list of one SVID or more has come whole, up to the next Identity.
-    fn check_sum(&self) -> Result<(), &'static str> {
-        if self.needed.is_listing() || self.svids.is_empty() {
-            return Ok(());
-        }
-        let pages = self.svids.len() / PAGE_SVIDS + 1 + self.last.confirmations_lost;
-        if self.last.page_count != pages || self.needed.pages() != pages {
-            return Err(WRONG_SUM);
-        }
-        Ok(())
-    }
-
-    fn check_goes_on(&self, before: &Observed, is_raised: bool) -> Result<(), &'static str> {
-        let ended = self.last.candidate == Candidate::None;
-        if is_raised || before.candidate != Candidate::None && ended {
-            return Err(ENDED_UNFINISHED);
-        }
-        Ok(())
-    }
-}
-
-/// The fair dock's messages and the laptop's are sound, and nothing voids a gathering.
-fn check_refusal(outcome: Outcome) -> Result<(), &'static str> {
-    match outcome.refusal {
-        Some(NOT_WHOLE_OBJECTS..=WRONG_SHAPE | VOIDED) => Err(REFUSED_UNFAIRLY),
-        _ => Ok(()),
-    }
-}
-
-/// By drop or start over.
-fn is_given_up(event: &Event, outcome: Outcome) -> bool {
-    let is_accepted = outcome.refusal == Some(ACCEPTED);
-    is_accepted && matches!(event, Event::Call(Call::Drop(_) | Call::StartOver(_)))
 }

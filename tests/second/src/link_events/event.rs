@@ -1,7 +1,8 @@
-//! One event at the ends or on the link, and its form as bytes.
+//! One event at the ends or on a link, and its form as bytes.
 
 use super::Start;
 use crate::call::{Call, DROP, ENTER, EXIT, NEXT, PROTOCOL_ERROR, RESPONSE_TIMER, START_OVER};
+use crate::side::Side;
 use crate::stream::{take_kind, Stop};
 use std::io::{self, BufRead, Read, Write};
 
@@ -29,6 +30,13 @@ pub enum Event {
     Call(Call),
     /// The timer of the awaited command.
     Timer,
+    /// On one side.
+    On(Side, LinkEvent),
+}
+
+/// On a side's link, or at its far end.
+#[derive(Clone, Copy, Debug, PartialEq, Eq)]
+pub enum LinkEvent {
     RequestReaches,
     RequestLost,
     /// Policy gives what the dock's data holds.
@@ -68,34 +76,21 @@ pub fn put_streams(streams: &[(Start, Vec<Event>)], output: &mut impl Write) -> 
 
 impl Event {
     /// Every event but a call, which is always permitted.
-    pub const BESIDE_CALLS: [Event; 9] = [
-        Event::Timer,
-        Event::RequestReaches,
-        Event::RequestLost,
-        Event::Give,
-        Event::Busy,
-        Event::AnswerArrives,
-        Event::AnswerLost,
-        Event::Sent,
-        Event::Failed,
-    ];
+    pub fn beside_calls() -> Vec<Event> {
+        let on_side = |side| LinkEvent::ALL.map(|event| Event::On(side, event));
+        let on_links = Side::BOTH.into_iter().flat_map(on_side);
+        [Event::Timer].into_iter().chain(on_links).collect()
+    }
 
     /// The event that this byte opens.
     fn take(kind: u8, input: &mut impl Read) -> Result<Self, Stop> {
-        Ok(match kind {
-            NEXT | START_OVER | DROP | PROTOCOL_ERROR | ENTER | EXIT => {
+        let (side, of_partner) = Side::of_kind(kind);
+        Ok(match (kind, of_partner) {
+            (TIMER, _) => Event::Timer,
+            (PROTOCOL_ERROR, _) | (_, NEXT | START_OVER | DROP | ENTER | EXIT) => {
                 Event::Call(Call::take(kind, input)?)
             }
-            TIMER => Event::Timer,
-            REQUEST_REACHES => Event::RequestReaches,
-            REQUEST_LOST => Event::RequestLost,
-            GIVE => Event::Give,
-            BUSY => Event::Busy,
-            ANSWER_ARRIVES => Event::AnswerArrives,
-            ANSWER_LOST => Event::AnswerLost,
-            SENT => Event::Sent,
-            FAILED => Event::Failed,
-            _ => return Err(Stop::UnknownKind),
+            _ => Event::On(side, LinkEvent::of_kind(of_partner)?),
         })
     }
 
@@ -103,14 +98,7 @@ impl Event {
         match self {
             Event::Call(call) => call.kind(),
             Event::Timer => TIMER,
-            Event::RequestReaches => REQUEST_REACHES,
-            Event::RequestLost => REQUEST_LOST,
-            Event::Give => GIVE,
-            Event::Busy => BUSY,
-            Event::AnswerArrives => ANSWER_ARRIVES,
-            Event::AnswerLost => ANSWER_LOST,
-            Event::Sent => SENT,
-            Event::Failed => FAILED,
+            Event::On(side, event) => side.twin(event.kind()),
         }
     }
 
@@ -119,6 +107,39 @@ impl Event {
         match self {
             Event::Call(call) => call.put_body(output),
             _ => Ok(()),
+        }
+    }
+}
+
+impl LinkEvent {
+    pub const ALL: [LinkEvent; 8] = [
+        LinkEvent::RequestReaches,
+        LinkEvent::RequestLost,
+        LinkEvent::Give,
+        LinkEvent::Busy,
+        LinkEvent::AnswerArrives,
+        LinkEvent::AnswerLost,
+        LinkEvent::Sent,
+        LinkEvent::Failed,
+    ];
+
+    /// The event of which this is the partner's kind.
+    fn of_kind(kind: u8) -> Result<Self, Stop> {
+        let event = Self::ALL.into_iter().find(|event| event.kind() == kind);
+        event.ok_or(Stop::UnknownKind)
+    }
+
+    /// The partner's kind of it.
+    fn kind(&self) -> u8 {
+        match self {
+            LinkEvent::RequestReaches => REQUEST_REACHES,
+            LinkEvent::RequestLost => REQUEST_LOST,
+            LinkEvent::Give => GIVE,
+            LinkEvent::Busy => BUSY,
+            LinkEvent::AnswerArrives => ANSWER_ARRIVES,
+            LinkEvent::AnswerLost => ANSWER_LOST,
+            LinkEvent::Sent => SENT,
+            LinkEvent::Failed => FAILED,
         }
     }
 }

@@ -1,9 +1,11 @@
-//! Both ends joined by the link of demand 3 (01, "The link and the fair dock of demand 3"): the
-//! events, their stream, making and counting, and the demand itself.
+//! The laptop end and two far ends, each joined to it by the link of demand 3 (01, "The link and the
+//! fair dock of demand 3"; 02, R-4): the events, their stream, making and counting, and the demand
+//! itself.
 
 pub mod answers;
 pub mod checks;
 mod event;
+mod far_end;
 pub mod generator;
 mod link;
 mod needed;
@@ -11,6 +13,7 @@ mod start;
 mod system;
 pub mod tally;
 
-pub use event::{put_streams, Event, Item};
-pub use start::{BadData, Data, Start};
+pub use event::{put_streams, Event, Item, LinkEvent};
+pub use far_end::FarEnd;
+pub use start::{BadData, Data, SideStart, Start};
 pub use system::{Outcome, System};

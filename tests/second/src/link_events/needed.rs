@@ -1,5 +1,6 @@
-//! The answers that a gathering still needs, told from the dock's data and from what has come in it.
-//! Of the laptop nothing is asked but what it awaits; the caller says when a gathering begins anew.
+//! The answers that a gathering of one side still needs, told from its dock's data and from what has
+//! come in it. Of the laptop nothing is asked but what it awaits from that side; the caller says when
+//! a gathering begins anew.
 
 use super::Data;
 use crate::laptop::MOST_PAGES;
@@ -18,7 +19,7 @@ struct Answer {
 pub enum Arrival {
     /// Awaited, not BUSY, and no page that came before.
     New,
-    /// A late page with nothing awaited while the list is open, or the 200th page without an end.
+    /// A late page with nothing awaited from the side while its list is open, or the 200th page without an end.
     Ends,
     Other,
 }
@@ -99,7 +100,7 @@ impl Needed {
         self.pages = 0;
     }
 
-    /// A message arrives at a laptop that awaits this.
+    /// A message of the side arrives at a laptop that awaits this from it.
     pub fn arrive(&mut self, awaited: Option<Request>, message: &Message) -> Arrival {
         let answer = Answer::of(message);
         let is_gathered = answer.request.command <= MODES && answer.kind != BUSY;

@@ -1,9 +1,10 @@
-//! What a stream of link events begins with: the dock's data, its first page, and whether the
-//! laptop holds an old catalogue.
+//! What a stream of link events begins with, of each side: the dock's data, its first page, and
+//! whether the laptop holds an old catalogue.
 
 use crate::catalogue::{Catalogue, MOST_CATALOGUE_BYTES, MOST_MODES, RUN_WORDS};
 use crate::dock::{LEAST_IDENTITY, MOST_IDENTITY, MOST_SVIDS};
 use crate::pages::is_list;
+use crate::side::Sides;
 use crate::stream::{count_byte, put_objects, take_bytes, take_objects, Stop};
 use std::io::{self, Read, Write};
 use std::ops::RangeInclusive;
@@ -33,8 +34,11 @@ impl From<BadData> for Stop {
     }
 }
 
+/// The partner's, and then the cable's.
+pub type Start = Sides<SideStart>;
+
 #[derive(Clone, Debug, PartialEq, Eq)]
-pub struct Start {
+pub struct SideStart {
     pub data: Data,
     /// How many pages the dock has sent before.
     pub page: u8,
@@ -106,17 +110,31 @@ impl Data {
 
 impl Start {
     pub fn take(input: &mut impl Read) -> Result<Self, BadData> {
+        Ok(Start {
+            partner: SideStart::take(input)?,
+            cable: SideStart::take(input)?,
+        })
+    }
+
+    pub fn put(&self, output: &mut impl Write) -> io::Result<()> {
+        self.partner.put(output)?;
+        self.cable.put(output)
+    }
+}
+
+impl SideStart {
+    fn take(input: &mut impl Read) -> Result<Self, BadData> {
         let data = Data::take(input)?;
         let [page] = take_bytes(input)?;
         let holds_old = take_count(input, 0..=1)? == 1;
-        Ok(Start {
+        Ok(SideStart {
             data,
             page,
             holds_old,
         })
     }
 
-    pub fn put(&self, output: &mut impl Write) -> io::Result<()> {
+    fn put(&self, output: &mut impl Write) -> io::Result<()> {
         self.data.put(output)?;
         output.write_all(&[self.page, u8::from(self.holds_old)])
     }

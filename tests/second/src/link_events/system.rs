@@ -1,30 +1,24 @@
-//! A laptop, the link and a fair dock, driven by events. An event that the link does not permit
-//! changes nothing.
+//! A laptop with two sides, and for each side a link and a fair far end, driven by events. An event
+//! that is not permitted changes nothing.
 
 mod begin;
 
-use super::link::{Heard, Link};
-use super::{Data, Event};
+use super::link::Heard;
+use super::{Event, FarEnd, LinkEvent};
 use crate::call::Call;
 use crate::catalogue::MOST_CATALOGUE_BYTES;
-use crate::dock::{Dock, PolicyAnswer, Standing};
-use crate::laptop::{Answer, Candidate, Laptop, Runs};
-use crate::messages::{MODES, MOST_OBJECTS, OBJECT_BYTES, SVIDS};
-use crate::pages::PAGE_SVIDS;
+use crate::dock::PolicyAnswer;
+use crate::laptop::{Awaited, Candidate, Laptop};
+use crate::lent_runs::LentRuns;
+use crate::messages::OBJECT_BYTES;
 use crate::refusals::NOT_TAKEN_NOW;
-use crate::side::Side;
-
-const ROOM: usize = MOST_OBJECTS * OBJECT_BYTES;
+use crate::side::{Side, Sides};
 
 #[derive(Clone, Debug, PartialEq, Eq)]
 pub struct System {
     laptop: Laptop,
-    held: Vec<u32>,
-    candidate: Vec<u32>,
-    link: Link,
-    dock: Dock,
-    data: Data,
-    confirmations_lost: usize,
+    runs: Sides<LentRuns>,
+    far_ends: Sides<FarEnd>,
 }
 
 /// What an event led to.
@@ -40,45 +34,47 @@ impl System {
         &self.laptop
     }
 
-    pub fn dock(&self) -> &Dock {
-        &self.dock
+    pub fn runs(&self, side: Side) -> &LentRuns {
+        &self.runs[side]
     }
 
-    pub fn link(&self) -> &Link {
-        &self.link
+    pub fn far_end(&self, side: Side) -> &FarEnd {
+        &self.far_ends[side]
     }
 
-    pub fn data(&self) -> &Data {
-        &self.data
-    }
-
-    /// How many pages before the last, counted since the list was opened, the dock never hears to
-    /// have been sent.
-    pub fn confirmations_lost(&self) -> usize {
-        self.confirmations_lost
-    }
-
-    /// The held catalogue's bytes.
-    pub fn held_bytes(&self) -> Option<Vec<u8>> {
+    /// The bytes of the side's held catalogue.
+    pub fn held_bytes(&self, side: Side) -> Option<Vec<u8>> {
         let mut bytes = [0; MOST_CATALOGUE_BYTES];
-        let length = self
-            .laptop
-            .write_catalogue(Side::Partner, &self.held, &mut bytes)
-            .ok()?;
+        let held = &self.runs[side].held;
+        let length = self.laptop.write_catalogue(side, held, &mut bytes).ok()?;
         Some(bytes[..length].to_vec())
     }
 
+    pub fn has_candidate(&self, side: Side) -> bool {
+        *self.laptop.candidate(side) != Candidate::None
+    }
+
+    /// The side from which an answer is awaited.
+    pub fn waiting(&self) -> Option<Side> {
+        self.laptop.awaited().map(|awaited| awaited.side)
+    }
+
+    /// The side that an event concerns. A timer or protocol error concerns the one that waits, and
+    /// counts as the partner's if none does.
+    pub fn side_of(&self, event: &Event) -> Side {
+        let said = match event {
+            Event::Call(call) => call.side(),
+            Event::Timer => None,
+            Event::On(side, _) => Some(*side),
+        };
+        said.or(self.waiting()).unwrap_or(Side::Partner)
+    }
+
     pub fn permits(&self, event: &Event) -> bool {
-        match event {
+        match *event {
             Event::Call(_) => true,
-            Event::Timer => self.laptop.awaited().is_some(),
-            Event::RequestReaches => self.link.can_reach(),
-            Event::RequestLost => self.link.has_request(),
-            Event::Give | Event::Busy => matches!(self.dock.standing(), Standing::Asking(_)),
-            Event::AnswerArrives => self.link.answer().is_some(),
-            Event::AnswerLost => self.link.can_lose_answer(),
-            Event::Sent => self.link.can_hear(Heard::Sent),
-            Event::Failed => self.link.can_hear(Heard::Failed),
+            Event::Timer => self.waiting().is_some(),
+            Event::On(side, event) => self.far_ends[side].permits(event),
         }
     }
 
@@ -92,122 +88,70 @@ impl System {
 
     /// The refusal of the call that the event makes, if it makes one.
     fn happen(&mut self, event: &Event) -> Option<u8> {
-        let result = match event {
-            Event::Call(call) => self.call(*call),
+        let side = self.side_of(event);
+        let result = match *event {
+            Event::Call(call) => self.call(side, call),
             Event::Timer => self.timer(),
-            Event::RequestReaches => self.reach(),
-            Event::RequestLost => {
-                self.link.request_lost();
-                return None;
-            }
-            Event::Give => self.policy(PolicyAnswer::Give),
-            Event::Busy => self.policy(PolicyAnswer::Busy),
-            Event::AnswerArrives => self.arrive(),
-            Event::AnswerLost => {
-                self.link.answer_lost();
-                return None;
-            }
-            Event::Sent => self.hear(Heard::Sent),
-            Event::Failed => self.hear(Heard::Failed),
+            Event::On(_, event) => return self.happen_on(side, event),
         };
         Some(result.err().unwrap_or_default())
     }
 
-    fn call(&mut self, call: Call) -> Result<(), u8> {
+    fn happen_on(&mut self, side: Side, event: LinkEvent) -> Option<u8> {
+        let far_end = &mut self.far_ends[side];
+        let result = match event {
+            LinkEvent::RequestReaches => far_end.reach(),
+            LinkEvent::RequestLost => {
+                far_end.link.request_lost();
+                return None;
+            }
+            LinkEvent::Give => far_end.policy(PolicyAnswer::Give),
+            LinkEvent::Busy => far_end.policy(PolicyAnswer::Busy),
+            LinkEvent::AnswerArrives => self.arrive(side),
+            LinkEvent::AnswerLost => {
+                far_end.link.answer_lost();
+                return None;
+            }
+            LinkEvent::Sent => far_end.hear(Heard::Sent),
+            LinkEvent::Failed => far_end.hear(Heard::Failed),
+        };
+        Some(result.err().unwrap_or_default())
+    }
+
+    fn call(&mut self, side: Side, call: Call) -> Result<(), u8> {
         let mut out = [0; OBJECT_BYTES];
-        let accepted = self.lent(|laptop, runs| call.make(laptop, runs, &mut out))?;
+        let runs = &mut self.runs[side].whole();
+        let accepted = call.make(&mut self.laptop, runs, &mut out)?;
         if accepted.length > 0 {
-            self.link.request_sent(&out);
+            self.far_ends[side].link.request_sent(&out);
         }
-        self.lose_request_without_wait();
+        self.lose_request_without_wait(side);
         Ok(())
     }
 
     fn timer(&mut self) -> Result<(), u8> {
-        let request = self
-            .laptop
-            .awaited_from(Side::Partner)
-            .ok_or(NOT_TAKEN_NOW)?;
-        self.call(Call::timer(request.command))
+        let Awaited { side, request } = self.laptop.awaited().ok_or(NOT_TAKEN_NOW)?;
+        self.call(side, Call::timer(request.command))
     }
 
-    /// A counted page of which nothing was heard before the next request counts as failed.
-    fn reach(&mut self) -> Result<(), u8> {
-        if self.link.is_unconfirmed_page() && !self.link.has_heard(Heard::Failed) {
-            self.confirmations_lost += 1;
-        }
-        let bytes = self.link.take_request().ok_or(NOT_TAKEN_NOW)?;
-        self.dock.message(&bytes, &mut []).map(|_| ())
-    }
-
-    /// Give brings the modes of a listed SVID; the other answers bring nothing.
-    fn policy(&mut self, answer: PolicyAnswer) -> Result<(), u8> {
-        let Standing::Asking(request) = self.dock.standing() else {
-            return Err(NOT_TAKEN_NOW);
-        };
-        let (answer, objects) = match (answer, request.command) {
-            (PolicyAnswer::Give, MODES) => match self.data.modes_of(request.svid) {
-                Some(modes) => (PolicyAnswer::Give, modes),
-                None => (PolicyAnswer::Busy, &[][..]),
-            },
-            _ => (answer, &[][..]),
-        };
-        let is_page = answer == PolicyAnswer::Give && request.command == SVIDS;
-        let is_page_before_last = is_page && self.dock.page() < self.last_page();
-        let mut out = [0; ROOM];
-        let length = self.dock.policy(answer, request, objects, &mut out)?;
-        self.link.answer_sent(&out[..length], is_page_before_last);
-        Ok(())
-    }
-
-    fn arrive(&mut self) -> Result<(), u8> {
-        let bytes = self.link.answer().ok_or(NOT_TAKEN_NOW)?.to_vec();
-        let pages = self.laptop.page_count(Side::Partner);
-        let had_candidate = self.has_candidate();
-        let answer = self.lent(|laptop, runs| laptop.message(Side::Partner, &bytes, runs));
-        self.link
-            .answer_arrived(self.laptop.page_count(Side::Partner) > pages);
-        if self.has_candidate() && !had_candidate {
-            self.confirmations_lost = 0;
-        }
-        if self.link.is_unconfirmed_page() && self.link.has_heard(Heard::Failed) {
-            self.confirmations_lost += 1;
-        }
-        self.lose_request_without_wait();
+    fn arrive(&mut self, side: Side) -> Result<(), u8> {
+        let answer = self.far_ends[side].link().answer();
+        let bytes = answer.ok_or(NOT_TAKEN_NOW)?.to_vec();
+        let pages = self.laptop.page_count(side);
+        let had_candidate = self.has_candidate(side);
+        let runs = &mut self.runs[side].whole();
+        let answer = self.laptop.message(side, &bytes, runs);
+        let is_counted = self.laptop.page_count(side) > pages;
+        let opens_list = self.has_candidate(side) && !had_candidate;
+        self.far_ends[side].answer_arrived(is_counted, opens_list);
+        self.lose_request_without_wait(side);
         answer.map(|_| ())
     }
 
-    fn hear(&mut self, heard: Heard) -> Result<(), u8> {
-        if heard == Heard::Failed && self.link.is_unconfirmed_page() {
-            self.confirmations_lost += 1;
+    /// A request not yet at the far end when its side's wait ends is lost.
+    fn lose_request_without_wait(&mut self, side: Side) {
+        if self.laptop.awaited_from(side).is_none() {
+            self.far_ends[side].link.request_lost();
         }
-        self.link.hear(heard);
-        match heard {
-            Heard::Sent => self.dock.sent(),
-            Heard::Failed => self.dock.failed(),
-        }
-    }
-
-    fn last_page(&self) -> usize {
-        self.data.svids.len() / PAGE_SVIDS
-    }
-
-    fn has_candidate(&self) -> bool {
-        *self.laptop.candidate(Side::Partner) != Candidate::None
-    }
-
-    /// A request not yet at the dock when its wait ends is lost.
-    fn lose_request_without_wait(&mut self) {
-        if self.laptop.awaited().is_none() {
-            self.link.request_lost();
-        }
-    }
-
-    fn lent(&mut self, call: impl FnOnce(&mut Laptop, &mut Runs) -> Answer) -> Answer {
-        let runs = &mut Runs {
-            held: &mut self.held,
-            candidate: &mut self.candidate,
-        };
-        call(&mut self.laptop, runs)
     }
 }

@@ -1,38 +1,56 @@
 //! Counts what streams of link events reach, and tells what they never reach.
 
+mod names;
+
 use super::checks::{Demand, Observed};
-use super::{Event, Outcome, Start, System};
+use super::{Event, LinkEvent, Outcome, Start, System};
 use crate::call::Call;
 use crate::counts::Counts;
+use crate::laptop::Candidate;
 use crate::messages::{read, BUSY};
-use crate::pages::{MOST_SVIDS, PAGE_SVIDS};
-use crate::refusals::{ACCEPTED, AWAITING, BLOCKED, NOT_AWAITED, NOT_HELD, NOT_TAKEN_NOW, NO_END};
+use crate::refusals::{ACCEPTED, AWAITING, NOT_AWAITED};
+use crate::side::Side;
+use names::*;
 
-/// Every refusal that the ends give over the link; 14 needs a page before the last.
-const REFUSALS: [u8; 7] = [
-    ACCEPTED,
-    NOT_AWAITED,
-    AWAITING,
-    NOT_TAKEN_NOW,
-    NOT_HELD,
-    BLOCKED,
-    NO_END,
-];
-const STREAMS: &str = "streams";
-const COMPLETED: &str = "gatherings completed";
-const UNCONFIRMED: &str = "gatherings completed with confirmations lost";
-const LOST_CONFIRMATION: &str = "confirmation lost";
-const LATE_ALONE: &str = "late answer with nothing awaited";
-const LATE_TAKEN: &str = "late answer taken for a newer request";
-const BUSY_TAKEN: &str = "BUSY taken";
-const SENT_FIRST: &str = "sent heard before the answer arrives";
-const FAILED_FIRST: &str = "failed heard before the answer arrives";
-const ENTER_SENT: &str = "enter sent";
-const EXIT_SENT: &str = "exit sent";
+pub use names::{all, of_one_stream};
 
 #[derive(Default)]
 pub struct Tally {
     counts: Counts,
+}
+
+/// An event, the side that it concerns, and what it led to.
+struct Happened<'stream> {
+    event: &'stream Event,
+    side: Side,
+    outcome: Outcome,
+    before: System,
+    now: &'stream System,
+}
+
+impl Happened<'_> {
+    fn is_accepted(&self) -> bool {
+        self.outcome.refusal == Some(ACCEPTED)
+    }
+
+    /// Whether an answer was awaited from the other side.
+    fn other_waited(&self) -> bool {
+        self.before.waiting() == Some(self.side.other())
+    }
+
+    /// Whether a mode of the other side is entered.
+    fn other_has_entered(&self) -> bool {
+        let entered = self.before.laptop().entered(self.side.other());
+        entered.values().any(|&set| set != 0)
+    }
+
+    fn drops_open_list(&self) -> bool {
+        let was_open = matches!(
+            self.before.laptop().candidate(self.side),
+            Candidate::ListOpen(_)
+        );
+        was_open && !self.now.has_candidate(self.side)
+    }
 }
 
 impl Tally {
@@ -40,73 +58,142 @@ impl Tally {
     pub fn count_stream(&mut self, start: &Start, events: &[Event]) -> Result<(), &'static str> {
         let mut system = System::begin(start);
         let mut demand = Demand::of(&system);
-        self.add(STREAMS);
+        let mut completed = Vec::new();
         for event in events {
             let before = system.clone();
+            let side = system.side_of(event);
             let outcome = system.take(event);
-            let [was, now] = [&before, &system].map(Observed::of);
-            self.counts.add(permission(event, outcome.permitted));
-            if let Some(number) = outcome.refusal {
-                self.counts.add(refusal(number));
+            let happened = Happened {
+                event,
+                side,
+                outcome,
+                before,
+                now: &system,
+            };
+            self.count_event(&happened);
+            let was_needed = demand.still_needed(side);
+            demand.check(side, event, outcome, &Observed::of_both(&system))?;
+            if was_needed > 0 && demand.still_needed(side) == 0 {
+                self.count_completed(&system, side);
+                completed.push(side);
             }
-            if now.confirmations_lost > was.confirmations_lost {
-                self.add(LOST_CONFIRMATION);
-            }
-            match event {
-                Event::AnswerArrives => self.count_arrival(&before, outcome),
-                _ => self.count_other(event, outcome, &was),
-            }
-            let was_needed = demand.still_needed();
-            let lost = now.confirmations_lost;
-            demand.check(event, outcome, now)?;
-            if was_needed > 0 && demand.still_needed() == 0 {
-                self.count_completed(start.data.svids.len(), lost);
-            }
+        }
+        self.counts.add(STREAMS.to_string());
+        if Side::BOTH.iter().all(|side| completed.contains(side)) {
+            self.counts.add(BOTH_COMPLETED.to_string());
         }
         Ok(())
     }
 
-    /// The link is quiet before the first request, so what arrives with nothing awaited, or while a
-    /// request is still under way, is late.
-    fn count_arrival(&mut self, system: &System, outcome: Outcome) {
-        let before = Observed::of(system);
-        if outcome.refusal == Some(NOT_AWAITED) && before.awaited.is_none() {
-            self.add(LATE_ALONE);
+    fn count_event(&mut self, happened: &Happened) {
+        let Happened { side, outcome, .. } = *happened;
+        self.counts
+            .add(permission(happened.event, outcome.permitted));
+        if let Some(number) = outcome.refusal {
+            self.counts.add(refusal(side, number));
         }
-        if outcome.refusal != Some(ACCEPTED) {
-            return;
+        let [was, now] = [&happened.before, happened.now]
+            .map(|system| system.far_end(side).confirmations_lost());
+        if now > was {
+            self.add(side, LOST_CONFIRMATION);
         }
-        if system.link().has_request() {
-            self.add(LATE_TAKEN);
-        }
-        let answer = before.answer.as_deref().and_then(|bytes| read(bytes).ok());
-        if answer.is_some_and(|message| message.kind == BUSY) {
-            self.add(BUSY_TAKEN);
-        }
-    }
-
-    fn count_completed(&mut self, svid_count: usize, confirmations_lost: usize) {
-        self.add(COMPLETED);
-        self.counts.add(completed(svid_count));
-        if confirmations_lost > 0 {
-            self.add(UNCONFIRMED);
+        match happened.event {
+            Event::Call(call) => self.count_call(call, happened),
+            Event::Timer if happened.is_accepted() => self.add(side, TIMER_ENDED),
+            Event::Timer => {}
+            Event::On(_, LinkEvent::AnswerArrives) => self.count_arrival(happened),
+            Event::On(_, event) => self.count_heard(*event, happened),
         }
     }
 
-    fn count_other(&mut self, event: &Event, outcome: Outcome, before: &Observed) {
-        let is_first = outcome.permitted && before.answer.is_some();
-        let is_accepted = outcome.refusal == Some(ACCEPTED);
-        match event {
-            Event::Sent if is_first => self.add(SENT_FIRST),
-            Event::Failed if is_first => self.add(FAILED_FIRST),
-            Event::Call(Call::Enter { .. }) if is_accepted => self.add(ENTER_SENT),
-            Event::Call(Call::Exit { .. }) if is_accepted => self.add(EXIT_SENT),
+    fn count_call(&mut self, call: &Call, happened: &Happened) {
+        let side = happened.side;
+        if happened.outcome.refusal == Some(AWAITING) && happened.other_waited() {
+            self.add(side, REFUSED_BESIDE);
+        }
+        if happened.is_accepted() {
+            self.count_accepted(call, happened);
+        }
+    }
+
+    fn count_accepted(&mut self, call: &Call, happened: &Happened) {
+        let side = happened.side;
+        match call {
+            Call::Next(_) | Call::StartOver(_) if happened.other_has_entered() => {
+                self.add(side, ASKED_BESIDE);
+            }
+            Call::Enter { .. } => {
+                self.add(side, ENTER_SENT);
+                if happened.now.has_candidate(side.other()) {
+                    self.add(side, ENTERED_BESIDE);
+                }
+            }
+            Call::Exit { .. } => self.add(side, EXIT_SENT),
+            Call::ProtocolError => self.add(side, ERROR_ENDED),
             _ => {}
         }
     }
 
-    fn add(&mut self, name: &str) {
-        self.counts.add(name.to_string());
+    /// The link is quiet before the first request, so what arrives with nothing awaited from its
+    /// side, or while a request is still under way, is late.
+    fn count_arrival(&mut self, happened: &Happened) {
+        let Happened { side, before, .. } = happened;
+        let link = before.far_end(*side).link();
+        if happened.outcome.refusal == Some(NOT_AWAITED) {
+            self.count_late(happened);
+        }
+        if !happened.is_accepted() {
+            return;
+        }
+        if link.has_request() {
+            self.add(*side, LATE_TAKEN);
+        }
+        let answer = link.answer().and_then(|bytes| read(bytes).ok());
+        if answer.is_some_and(|message| message.kind == BUSY) {
+            self.add(*side, BUSY_TAKEN);
+        }
+    }
+
+    /// An answer that is refused 6.
+    fn count_late(&mut self, happened: &Happened) {
+        let side = happened.side;
+        match happened.before.waiting() {
+            None => self.add(side, LATE_ALONE),
+            Some(waiting) if waiting == side => {}
+            Some(_) => {
+                self.add(side, LATE_BESIDE);
+                if happened.drops_open_list() {
+                    self.add(side, DROPPED_BESIDE);
+                }
+            }
+        }
+    }
+
+    fn count_heard(&mut self, event: LinkEvent, happened: &Happened) {
+        let side = happened.side;
+        let is_under_way = happened.before.far_end(side).link().answer().is_some();
+        let is_first = happened.outcome.permitted && is_under_way;
+        match event {
+            LinkEvent::Sent if is_first => self.add(side, SENT_FIRST),
+            LinkEvent::Failed if is_first => self.add(side, FAILED_FIRST),
+            _ => {}
+        }
+    }
+
+    fn count_completed(&mut self, system: &System, side: Side) {
+        let far_end = system.far_end(side);
+        self.add(side, COMPLETED);
+        self.counts.add(completed(side, far_end.data().svids.len()));
+        if far_end.confirmations_lost() > 0 {
+            self.add(side, UNCONFIRMED);
+        }
+        if system.has_candidate(side.other()) {
+            self.add(side, COMPLETED_BESIDE);
+        }
+    }
+
+    fn add(&mut self, side: Side, name: &str) {
+        self.counts.add(of_side(side, name));
     }
 
     /// A line for each of the names that never occurred.
@@ -117,58 +204,4 @@ impl Tally {
     pub fn table(&self) -> String {
         self.counts.table(&all())
     }
-}
-
-/// What one long stream reaches whose list has so many SVIDs. Not each of them sends an enter.
-pub fn of_one_stream(length: usize) -> Vec<String> {
-    let has_page_before_last = length >= PAGE_SVIDS;
-    let needs_page = [&refusal(NO_END), UNCONFIRMED, LOST_CONFIRMATION].map(str::to_string);
-    let modes = [ENTER_SENT, EXIT_SENT].map(str::to_string);
-    let lengths = (0..=MOST_SVIDS).map(completed);
-    let of_many: Vec<String> = modes.into_iter().chain(lengths).collect();
-    all()
-        .into_iter()
-        .filter(|name| has_page_before_last || !needs_page.contains(name))
-        .filter(|name| !of_many.contains(name))
-        .collect()
-}
-
-/// Each refusal, permission, sort of event and gathering.
-pub fn all() -> Vec<String> {
-    let single = [
-        STREAMS,
-        COMPLETED,
-        UNCONFIRMED,
-        LOST_CONFIRMATION,
-        LATE_ALONE,
-        LATE_TAKEN,
-        BUSY_TAKEN,
-        SENT_FIRST,
-        FAILED_FIRST,
-        ENTER_SENT,
-        EXIT_SENT,
-    ];
-    let permissions = Event::BESIDE_CALLS
-        .iter()
-        .flat_map(|event| [true, false].map(|permitted| permission(event, permitted)));
-    let single = single.map(str::to_string).into_iter();
-    let names = single.chain(REFUSALS.map(refusal)).chain(permissions);
-    names.chain((0..=MOST_SVIDS).map(completed)).collect()
-}
-
-fn refusal(number: u8) -> String {
-    format!("refusal {number}")
-}
-
-fn completed(length: usize) -> String {
-    format!("gathering of {length} completed")
-}
-
-fn permission(event: &Event, permitted: bool) -> String {
-    let word = if permitted {
-        "permitted"
-    } else {
-        "not permitted"
-    };
-    format!("kind {:02X} {word}", event.kind())
 }

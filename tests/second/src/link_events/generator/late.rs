@@ -1,11 +1,11 @@
-//! Answers whose wait has ended: with nothing awaited, and with a newer request that they fit.
+//! Answers whose wait has ended: with nothing awaited, with a newer request that they fit, and while
+//! the other side waits.
 
-use super::{Event, Generator};
+use super::{Event, Generator, LinkEvent};
 use crate::call::Call;
-use crate::side::Side;
 
 /// What the dock hears of an answer that is still under way.
-pub const HEARD: [Option<Event>; 3] = [None, Some(Event::Sent), Some(Event::Failed)];
+pub const HEARD: [Option<LinkEvent>; 3] = [None, Some(LinkEvent::Sent), Some(LinkEvent::Failed)];
 
 impl Generator {
     pub(super) fn late(&mut self) {
@@ -14,50 +14,61 @@ impl Generator {
                 self.late_with_nothing_awaited(exchanges, heard);
                 self.late_with_newer_request(exchanges, heard);
                 self.newer_request_first(exchanges, heard);
+                self.late_beside(exchanges, heard);
+                self.given_beside(exchanges, heard);
             }
         }
     }
 
-    /// A wait for the answer to Identity, or to a request of the list or of its modes, has ended.
-    fn end_wait(&mut self, exchanges: usize, heard: Option<Event>) {
+    /// So many exchanges from no candidate on.
+    pub(super) fn exchanges_anew(&mut self, exchanges: usize) {
         self.finish();
-        self.push(Event::Call(Call::Drop(Side::Partner)));
+        self.push(Event::Call(Call::Drop(self.side)));
         for _ in 0..exchanges {
             self.exchange();
         }
-        self.answer();
-        if let Some(heard) = heard {
-            self.push(heard);
-        }
-        self.push(Event::Timer);
     }
 
-    pub(super) fn late_with_nothing_awaited(&mut self, exchanges: usize, heard: Option<Event>) {
-        self.end_wait(exchanges, heard);
-        self.push(Event::AnswerArrives);
-        self.push(Event::Failed);
+    pub(super) fn hear(&mut self, heard: Option<LinkEvent>) {
+        if let Some(heard) = heard {
+            self.happen(heard);
+        }
+    }
+
+    /// A wait for the answer to Identity, or to a request of the list or of its modes, has ended.
+    pub(super) fn wait_has_ended(&mut self, exchanges: usize, heard: Option<LinkEvent>) {
+        self.exchanges_anew(exchanges);
+        self.answer();
+        self.hear(heard);
+        self.end_wait();
+    }
+
+    pub(super) fn late_with_nothing_awaited(&mut self, exchanges: usize, heard: Option<LinkEvent>) {
+        self.wait_has_ended(exchanges, heard);
+        self.happen(LinkEvent::AnswerArrives);
+        self.happen(LinkEvent::Failed);
         self.exchange();
     }
 
     /// The late answer is taken, and the newer request is lost.
-    pub(super) fn late_with_newer_request(&mut self, exchanges: usize, heard: Option<Event>) {
-        self.end_wait(exchanges, heard);
+    pub(super) fn late_with_newer_request(&mut self, exchanges: usize, heard: Option<LinkEvent>) {
+        self.wait_has_ended(exchanges, heard);
         self.next();
-        self.push(Event::AnswerArrives);
-        self.push(Event::RequestReaches);
-        self.push(Event::Sent);
+        self.happen(LinkEvent::AnswerArrives);
+        self.happen(LinkEvent::RequestReaches);
+        self.happen(LinkEvent::Sent);
         self.exchange();
     }
 
     /// The newer request reaches the dock before the late answer, which then never arrives; a
     /// confirmed one comes first all the same.
-    pub(super) fn newer_request_first(&mut self, exchanges: usize, heard: Option<Event>) {
-        self.end_wait(exchanges, heard);
+    pub(super) fn newer_request_first(&mut self, exchanges: usize, heard: Option<LinkEvent>) {
+        self.wait_has_ended(exchanges, heard);
         self.next();
-        self.push(Event::RequestReaches);
-        self.push(Event::AnswerLost);
-        self.push(Event::AnswerArrives);
-        self.push(Event::Sent);
+        self.happen(LinkEvent::RequestReaches);
+        self.happen(LinkEvent::AnswerLost);
+        self.happen(LinkEvent::AnswerArrives);
+        self.happen(LinkEvent::Sent);
         self.finish();
     }
 }

@@ -1,16 +1,14 @@
 //! Answers that are lost, and pages that stay unconfirmed: once each, and so often that two hundred
 //! are counted.
 
-use super::{Event, Generator};
+use super::{Generator, LinkEvent};
 use crate::laptop::{Candidate, MOST_PAGES};
-use crate::pages::PAGE_SVIDS;
-use crate::side::Side;
 
 /// The ways in which a counted page stays unconfirmed.
-const WAYS: [[Option<Event>; 2]; 3] = [
-    [Some(Event::AnswerArrives), Some(Event::Failed)],
-    [Some(Event::Failed), Some(Event::AnswerArrives)],
-    [Some(Event::AnswerArrives), None],
+const WAYS: [[Option<LinkEvent>; 2]; 3] = [
+    [Some(LinkEvent::AnswerArrives), Some(LinkEvent::Failed)],
+    [Some(LinkEvent::Failed), Some(LinkEvent::AnswerArrives)],
+    [Some(LinkEvent::AnswerArrives), None],
 ];
 
 impl Generator {
@@ -18,7 +16,7 @@ impl Generator {
         self.each_answer_lost();
         self.each_page_again();
         self.until(MOST_PAGES);
-        let full_pages = self.system.dock().svid_count() / PAGE_SVIDS;
+        let full_pages = self.far_end().last_page();
         self.until(MOST_PAGES - 1 - full_pages);
         self.gather_on();
     }
@@ -28,11 +26,11 @@ impl Generator {
         self.open();
         while self.has_candidate() {
             self.answer();
-            self.push(Event::AnswerLost);
+            self.happen(LinkEvent::AnswerLost);
             if self.random.below(2) == 0 {
-                self.push(Event::Failed);
+                self.happen(LinkEvent::Failed);
             }
-            self.push(Event::Timer);
+            self.end_wait();
             self.exchange();
         }
     }
@@ -53,25 +51,23 @@ impl Generator {
         self.open();
         while self.list_is_open()
             && !self.last_page_is_shown()
-            && self.system.laptop().page_count(Side::Partner) < pages
+            && self.system.laptop().page_count(self.side) < pages
         {
             self.page_unconfirmed();
         }
-        self.push(Event::Failed);
+        self.happen(LinkEvent::Failed);
     }
 
     pub(super) fn page_unconfirmed(&mut self) {
         self.answer();
         let way = self.random.one_of(&WAYS);
         for event in way.into_iter().flatten() {
-            self.push(event);
+            self.happen(event);
         }
     }
 
     pub(super) fn list_is_open(&self) -> bool {
-        matches!(
-            self.system.laptop().candidate(Side::Partner),
-            Candidate::ListOpen(_)
-        )
+        let candidate = self.system.laptop().candidate(self.side);
+        matches!(candidate, Candidate::ListOpen(_))
     }
 }

@@ -51,7 +51,7 @@ impl Course {
             Side::Partner => change(&mut outcome, [partner, cable]),
             Side::Cable => change(&mut outcome, [cable, partner]),
         }
-        self.demand.check(concerned, &event, outcome, &now)
+        self.demand.check(concerned, &event, outcome, now)
     }
 
     fn still_needed(&self) -> usize {
@@ -240,7 +240,7 @@ fn a_laptop_that_asks_again_for_what_has_come_gets_nowhere() {
     let outcome = course.system.take(&ARRIVES);
     let mut check = || {
         let demand = &mut course.demand;
-        demand.check(Side::Partner, &ARRIVES, outcome, &stuck)
+        demand.check(Side::Partner, &ARRIVES, outcome, stuck.clone())
     };
     assert_eq!(check(), Ok(()));
     assert_eq!(check(), Err(NOT_LOWERED));

@@ -31,7 +31,7 @@ pub fn print_answers(input: &mut impl BufRead, output: &mut impl Write) -> io::R
         let outcome = course.system.take(&event);
         print_answer(course, side, outcome, output)?;
         let observed = Observed::of_both(&course.system);
-        let check = course.demand.check(side, &event, outcome, &observed);
+        let check = course.demand.check(side, &event, outcome, observed);
         Ok(check.or_else(|broken| report_broken(course.place, broken, output))?)
     })
 }

@@ -38,6 +38,7 @@ pub struct Observed {
 
 pub struct Demand {
     sides: Sides<SideDemand>,
+    last: Sides<Observed>,
 }
 
 impl Observed {
@@ -59,13 +60,24 @@ impl Observed {
     pub fn of_both(system: &System) -> Sides<Self> {
         Sides::each(|side| Self::of(system, side))
     }
+
+    pub fn has_candidate(&self) -> bool {
+        self.candidate != Candidate::None
+    }
 }
 
 impl Demand {
     pub fn of(system: &System) -> Self {
+        let last = Observed::of_both(system);
         Demand {
-            sides: Sides::each(|side| SideDemand::of(system, side)),
+            sides: Sides::each(|side| SideDemand::of(&last[side])),
+            last,
         }
+    }
+
+    /// What was last observed.
+    pub fn last(&self) -> &Sides<Observed> {
+        &self.last
     }
 
     /// How many answers the side's gathering still needs.
@@ -74,21 +86,22 @@ impl Demand {
     }
 
     /// The demand on an event that concerns this side and led from what was last observed to `now`,
-    /// or what breaks it. A call refused 7 because the other side waits is no part of the history.
+    /// or what breaks it. A call refused 7 because the other side waits is left out.
     pub fn check(
         &mut self,
         side: Side,
         event: &Event,
         outcome: Outcome,
-        now: &Sides<Observed>,
+        now: Sides<Observed>,
     ) -> Result<(), &'static str> {
-        let other = side.other();
-        let is_left_out = outcome.refusal == Some(AWAITING) && self.sides[other].waits();
-        if now[other] != *self.sides[other].last() {
+        let before = std::mem::replace(&mut self.last, now);
+        let (now, other) = (&self.last, side.other());
+        let other_waits = before[other].awaited.is_some();
+        if now[other] != before[other] {
             Err(OTHER_SIDE_CHANGED)
-        } else if !is_left_out {
-            self.sides[side].check(event, outcome, now[side].clone())
-        } else if now[side] != *self.sides[side].last() {
+        } else if !other_waits || outcome.refusal != Some(AWAITING) {
+            self.sides[side].check(event, outcome, &before[side], &now[side])
+        } else if now[side] != before[side] {
             Err(CHANGED_BY_REFUSED)
         } else {
             Ok(())

@@ -6,6 +6,7 @@ mod beside;
 mod drawn;
 mod late;
 mod short;
+mod sort;
 mod unconfirmed;
 
 use super::{Data, Event, FarEnd, LinkEvent, Outcome, SideStart, Start, System};
@@ -14,9 +15,9 @@ use crate::catalogue::MOST_MODES;
 use crate::dock::{LEAST_IDENTITY, MOST_IDENTITY, MOST_SVIDS};
 use crate::random::Random;
 use crate::side::{Side, Sides};
-use short::Sort;
+use sort::Sort;
 
-pub use short::STREAMS;
+pub use sort::STREAMS;
 
 const LENGTHS: u64 = MOST_SVIDS as u64 + 1;
 /// What ends a wait without an answer.

@@ -3,13 +3,14 @@
 mod names;
 
 use super::checks::{Demand, Observed};
+use super::link::Link;
 use super::{Event, LinkEvent, Outcome, Start, System};
 use crate::call::Call;
 use crate::counts::Counts;
 use crate::laptop::Candidate;
 use crate::messages::{read, BUSY};
 use crate::refusals::{ACCEPTED, AWAITING, NOT_AWAITED};
-use crate::side::Side;
+use crate::side::{Side, Sides};
 use names::*;
 
 pub use names::{all, of_one_stream};
@@ -24,8 +25,8 @@ struct Happened<'stream> {
     event: &'stream Event,
     side: Side,
     outcome: Outcome,
-    before: System,
-    now: &'stream System,
+    before: &'stream Sides<Observed>,
+    now: &'stream Sides<Observed>,
 }
 
 impl Happened<'_> {
@@ -35,21 +36,23 @@ impl Happened<'_> {
 
     /// Whether an answer was awaited from the other side.
     fn other_waited(&self) -> bool {
-        self.before.waiting() == Some(self.side.other())
+        self.before[self.side.other()].awaited.is_some()
     }
 
     /// Whether a mode of the other side is entered.
     fn other_has_entered(&self) -> bool {
-        let entered = self.before.laptop().entered(self.side.other());
+        let entered = &self.before[self.side.other()].entered;
         entered.values().any(|&set| set != 0)
     }
 
     fn drops_open_list(&self) -> bool {
-        let was_open = matches!(
-            self.before.laptop().candidate(self.side),
-            Candidate::ListOpen(_)
-        );
-        was_open && !self.now.has_candidate(self.side)
+        let was_open = matches!(self.before[self.side].candidate, Candidate::ListOpen(_));
+        was_open && !self.now[self.side].has_candidate()
+    }
+
+    /// The link of the side before the event.
+    fn link(&self) -> &Link {
+        self.before[self.side].far_end.link()
     }
 }
 
@@ -60,21 +63,20 @@ impl Tally {
         let mut demand = Demand::of(&system);
         let mut completed = Vec::new();
         for event in events {
-            let before = system.clone();
             let side = system.side_of(event);
             let outcome = system.take(event);
-            let happened = Happened {
+            let now = Observed::of_both(&system);
+            self.count_event(&Happened {
                 event,
                 side,
                 outcome,
-                before,
-                now: &system,
-            };
-            self.count_event(&happened);
+                before: demand.last(),
+                now: &now,
+            });
             let was_needed = demand.still_needed(side);
-            demand.check(side, event, outcome, &Observed::of_both(&system))?;
+            demand.check(side, event, outcome, now)?;
             if was_needed > 0 && demand.still_needed(side) == 0 {
-                self.count_completed(&system, side);
+                self.count_completed(demand.last(), side);
                 completed.push(side);
             }
         }
@@ -92,9 +94,8 @@ impl Tally {
         if let Some(number) = outcome.refusal {
             self.counts.add(refusal(side, number));
         }
-        let [was, now] = [&happened.before, happened.now]
-            .map(|system| system.far_end(side).confirmations_lost());
-        if now > was {
+        let [was, now] = [happened.before, happened.now].map(|sides| &sides[side]);
+        if now.confirmations_lost > was.confirmations_lost {
             self.add(side, LOST_CONFIRMATION);
         }
         match happened.event {
@@ -124,7 +125,7 @@ impl Tally {
             }
             Call::Enter { .. } => {
                 self.add(side, ENTER_SENT);
-                if happened.now.has_candidate(side.other()) {
+                if happened.now[side.other()].has_candidate() {
                     self.add(side, ENTERED_BESIDE);
                 }
             }
@@ -137,8 +138,7 @@ impl Tally {
     /// The link is quiet before the first request, so what arrives with nothing awaited from its
     /// side, or while a request is still under way, is late.
     fn count_arrival(&mut self, happened: &Happened) {
-        let Happened { side, before, .. } = happened;
-        let link = before.far_end(*side).link();
+        let (side, link) = (happened.side, happened.link());
         if happened.outcome.refusal == Some(NOT_AWAITED) {
             self.count_late(happened);
         }
@@ -146,33 +146,30 @@ impl Tally {
             return;
         }
         if link.has_request() {
-            self.add(*side, LATE_TAKEN);
+            self.add(side, LATE_TAKEN);
         }
         let answer = link.answer().and_then(|bytes| read(bytes).ok());
         if answer.is_some_and(|message| message.kind == BUSY) {
-            self.add(*side, BUSY_TAKEN);
+            self.add(side, BUSY_TAKEN);
         }
     }
 
     /// An answer that is refused 6.
     fn count_late(&mut self, happened: &Happened) {
         let side = happened.side;
-        match happened.before.waiting() {
-            None => self.add(side, LATE_ALONE),
-            Some(waiting) if waiting == side => {}
-            Some(_) => {
-                self.add(side, LATE_BESIDE);
-                if happened.drops_open_list() {
-                    self.add(side, DROPPED_BESIDE);
-                }
+        if happened.other_waited() {
+            self.add(side, LATE_BESIDE);
+            if happened.drops_open_list() {
+                self.add(side, DROPPED_BESIDE);
             }
+        } else if happened.before[side].awaited.is_none() {
+            self.add(side, LATE_ALONE);
         }
     }
 
     fn count_heard(&mut self, event: LinkEvent, happened: &Happened) {
         let side = happened.side;
-        let is_under_way = happened.before.far_end(side).link().answer().is_some();
-        let is_first = happened.outcome.permitted && is_under_way;
+        let is_first = happened.outcome.permitted && happened.link().answer().is_some();
         match event {
             LinkEvent::Sent if is_first => self.add(side, SENT_FIRST),
             LinkEvent::Failed if is_first => self.add(side, FAILED_FIRST),
@@ -180,14 +177,14 @@ impl Tally {
         }
     }
 
-    fn count_completed(&mut self, system: &System, side: Side) {
-        let far_end = system.far_end(side);
+    fn count_completed(&mut self, now: &Sides<Observed>, side: Side) {
+        let length = now[side].far_end.data().svids.len();
         self.add(side, COMPLETED);
-        self.counts.add(completed(side, far_end.data().svids.len()));
-        if far_end.confirmations_lost() > 0 {
+        self.counts.add(completed(side, length));
+        if now[side].confirmations_lost > 0 {
             self.add(side, UNCONFIRMED);
         }
-        if system.has_candidate(side.other()) {
+        if now[side.other()].has_candidate() {
             self.add(side, COMPLETED_BESIDE);
         }
     }

@@ -6,11 +6,10 @@ use super::Observed;
 use crate::call::Call;
 use crate::laptop::Candidate;
 use crate::link_events::needed::{Arrival, Needed};
-use crate::link_events::{Event, LinkEvent, Outcome, System};
+use crate::link_events::{Event, LinkEvent, Outcome};
 use crate::messages::{read, IDENTITY};
 use crate::pages::PAGE_SVIDS;
 use crate::refusals::{ACCEPTED, NOT_WHOLE_OBJECTS, VOIDED, WRONG_SHAPE};
-use crate::side::Side;
 
 pub const REFUSED_UNFAIRLY: &str = "a fair message was refused 1 to 5, or 8";
 pub const NEITHER_OLD_NOR_WHOLE: &str = "what is held is neither the old catalogue nor the whole";
@@ -26,7 +25,6 @@ pub struct SideDemand {
     whole: Vec<u8>,
     svids: Vec<u16>,
     needed: Needed,
-    last: Observed,
 }
 
 impl Observed {
@@ -37,25 +35,14 @@ impl Observed {
 }
 
 impl SideDemand {
-    pub fn of(system: &System, side: Side) -> Self {
-        let last = Observed::of(system, side);
-        let data = system.far_end(side).data();
+    pub fn of(first: &Observed) -> Self {
+        let data = first.far_end.data();
         SideDemand {
-            old: last.held.clone(),
+            old: first.held.clone(),
             whole: data.catalogue_bytes(),
             svids: data.svids.clone(),
             needed: Needed::by(data),
-            last,
         }
-    }
-
-    pub fn last(&self) -> &Observed {
-        &self.last
-    }
-
-    /// Whether an answer is awaited from this side.
-    pub fn waits(&self) -> bool {
-        self.last.awaited.is_some()
     }
 
     /// How many answers the gathering still needs.
@@ -63,34 +50,42 @@ impl SideDemand {
         self.needed.number()
     }
 
-    /// The demand on an event that led from what was last observed to `now`, or what breaks it.
+    /// The demand on an event that led from `before` to `now`, or what breaks it.
     pub fn check(
         &mut self,
         event: &Event,
         outcome: Outcome,
-        now: Observed,
+        before: &Observed,
+        now: &Observed,
     ) -> Result<(), &'static str> {
-        let before = std::mem::replace(&mut self.last, now);
         check_refusal(outcome)?;
         let was_needed = self.still_needed();
-        let arrival = self.receive(event, outcome, &before);
+        let arrival = self.receive(event, outcome, before, now);
         let is_needed = self.still_needed();
         if arrival == Arrival::New && is_needed + 1 != was_needed {
             return Err(NOT_LOWERED);
         }
         let completes = was_needed > 0 && is_needed == 0;
-        self.check_held(&before, completes)?;
-        self.check_list()?;
-        self.check_sum()?;
+        self.check_held(before, now, completes)?;
+        self.check_list(now)?;
+        self.check_sum(now)?;
         let may_end = arrival == Arrival::Ends || is_given_up(event, outcome);
-        if was_needed > 0 && !completes && !may_end {
-            self.check_goes_on(&before, is_needed > was_needed)?;
+        let ended = before.has_candidate() && !now.has_candidate();
+        let is_raised = is_needed > was_needed;
+        if was_needed > 0 && !completes && !may_end && (is_raised || ended) {
+            return Err(ENDED_UNFINISHED);
         }
         Ok(())
     }
 
     /// Adds what has come with the event.
-    fn receive(&mut self, event: &Event, outcome: Outcome, before: &Observed) -> Arrival {
+    fn receive(
+        &mut self,
+        event: &Event,
+        outcome: Outcome,
+        before: &Observed,
+        now: &Observed,
+    ) -> Arrival {
         match event {
             Event::On(_, LinkEvent::AnswerArrives) => {
                 let answer = before.answer.as_deref().and_then(|bytes| read(bytes).ok());
@@ -99,7 +94,7 @@ impl SideDemand {
                 })
             }
             Event::Call(call) if outcome.refusal == Some(ACCEPTED) => {
-                let goes_out = self.last.awaits_identity() && before.awaited.is_none();
+                let goes_out = now.awaits_identity() && before.awaited.is_none();
                 if matches!(call, Call::Drop(_)) || goes_out {
                     self.needed.begin_anew();
                 }
@@ -109,14 +104,18 @@ impl SideDemand {
         }
     }
 
-    fn check_held(&self, before: &Observed, completes: bool) -> Result<(), &'static str> {
-        let held = &self.last.held;
-        let is_whole = held.as_ref() == Some(&self.whole);
-        if *held != self.old && !is_whole {
+    fn check_held(
+        &self,
+        before: &Observed,
+        now: &Observed,
+        completes: bool,
+    ) -> Result<(), &'static str> {
+        let is_whole = now.held.as_ref() == Some(&self.whole);
+        if now.held != self.old && !is_whole {
             Err(NEITHER_OLD_NOR_WHOLE)
         } else if completes && !is_whole {
             Err(NOT_PUBLISHED)
-        } else if !completes && *held != before.held {
+        } else if !completes && now.held != before.held {
             Err(CHANGED_EARLY)
         } else {
             Ok(())
@@ -124,32 +123,24 @@ impl SideDemand {
     }
 
     /// Once the list has come whole, until all modes have.
-    fn check_list(&self) -> Result<(), &'static str> {
+    fn check_list(&self, now: &Observed) -> Result<(), &'static str> {
         if self.needed.is_listing() || self.still_needed() == 0 {
             return Ok(());
         }
-        match &self.last.candidate {
+        match &now.candidate {
             Candidate::ListDone(gathered) if gathered.svids == self.svids => Ok(()),
             _ => Err(WRONG_LIST),
         }
     }
 
     /// Once a list of one SVID or more has come whole, up to the next Identity.
-    fn check_sum(&self) -> Result<(), &'static str> {
+    fn check_sum(&self, now: &Observed) -> Result<(), &'static str> {
         if self.needed.is_listing() || self.svids.is_empty() {
             return Ok(());
         }
-        let pages = self.svids.len() / PAGE_SVIDS + 1 + self.last.confirmations_lost;
-        if self.last.page_count != pages || self.needed.pages() != pages {
+        let pages = self.svids.len() / PAGE_SVIDS + 1 + now.confirmations_lost;
+        if now.page_count != pages || self.needed.pages() != pages {
             return Err(WRONG_SUM);
-        }
-        Ok(())
-    }
-
-    fn check_goes_on(&self, before: &Observed, is_raised: bool) -> Result<(), &'static str> {
-        let ended = self.last.candidate == Candidate::None;
-        if is_raised || before.candidate != Candidate::None && ended {
-            return Err(ENDED_UNFINISHED);
         }
         Ok(())
     }

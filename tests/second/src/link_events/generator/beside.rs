@@ -5,6 +5,9 @@ use super::{Event, Generator, LinkEvent};
 use crate::call::Call;
 use crate::side::Side;
 
+/// What becomes of a request before its answer arrives.
+const BEFORE_THE_ANSWER: [LinkEvent; 2] = [LinkEvent::RequestReaches, LinkEvent::Give];
+
 impl Generator {
     /// Makes the events of the other side.
     pub(super) fn at_other(&mut self, make: impl FnOnce(&mut Self)) {
@@ -31,15 +34,15 @@ impl Generator {
         }
     }
 
-    /// The answer comes, or it is late, the dock still asks policy, or the request is lost.
+    /// The wait ends when the request is lost, the dock asks policy, or the answer is under way and
+    /// then late; or the answer comes.
     fn exchange_in_between(&mut self) {
-        let steps = self.random.below(4);
         self.ask_next();
-        let steps = match steps {
-            3 => return self.finish(),
-            steps => &[LinkEvent::RequestReaches, LinkEvent::Give][..steps],
+        let steps = self.random.below(BEFORE_THE_ANSWER.len() + 2);
+        let Some(events) = BEFORE_THE_ANSWER.get(..steps) else {
+            return self.finish();
         };
-        for &event in steps {
+        for &event in events {
             self.happen(event);
         }
         if self.waits() {
@@ -51,12 +54,7 @@ impl Generator {
     /// refused 7.
     pub(super) fn beside(&mut self) {
         if self.waits() && self.random.is_rare() {
-            self.at_other(|other| match other.on_the_way() {
-                Some(event) => {
-                    other.push(event);
-                }
-                None => other.drawn_call(),
-            });
+            self.at_other(Self::go_on);
         }
     }
 

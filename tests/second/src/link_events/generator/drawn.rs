@@ -48,7 +48,8 @@ impl Generator {
         self.side = if is_other { side.other() } else { side };
     }
 
-    fn go_on(&mut self) {
+    /// What is on the way, or else a call.
+    pub(super) fn go_on(&mut self) {
         match self.on_the_way() {
             Some(event) => {
                 self.push(event);
@@ -59,7 +60,7 @@ impl Generator {
 
     /// Mostly a next, for which every mode has to be left; with no candidate at times an enter or
     /// exit.
-    pub(super) fn drawn_call(&mut self) {
+    fn drawn_call(&mut self) {
         if !self.has_candidate() && self.random.below(2) == 0 {
             self.drawn_mode();
         } else if self.ask_next().refusal == Some(BLOCKED) {

@@ -3,97 +3,15 @@
 
 use super::drawn::TROUBLES;
 use super::late::HEARD;
-use super::{Event, Generator, LinkEvent, MOST_SVIDS};
+use super::sort::Sort;
+use super::{Event, Generator, LinkEvent};
 use crate::call::Call;
 use crate::laptop::MOST_PAGES;
 use crate::pages::PAGE_SVIDS;
-use crate::random::Random;
-use crate::side::{Side, Sides};
+use crate::side::Side;
 
-/// How many streams are stored: a long one, and all sorts of short ones.
-pub const STREAMS: u64 = 1 + LONG + ROUNDS * LENGTHS;
-const LENGTHS: u64 = super::LENGTHS;
-/// Each round has a stream of every length.
-const ROUNDS: u64 = 22;
-/// The rounds of whole gatherings, which come first: of the partner, of the cable, and of both.
-const PARTNER_ROUND: u64 = 0;
-const CABLE_ROUND: u64 = 1;
-const BOTH_ROUND: u64 = 2;
-/// The lists of about two hundred pages, each once to the last page and once past it.
-const LONG_LISTS: [(Side, usize); 4] = [
-    (Side::Partner, PAGE_SVIDS),
-    (Side::Cable, PAGE_SVIDS + 1),
-    (Side::Cable, 36),
-    (Side::Partner, MOST_SVIDS),
-];
-const LONG: u64 = 2 * LONG_LISTS.len() as u64;
-/// The lists of the side that only comes in between.
-const OTHER_LISTS: [usize; 6] = [0, 1, 2, 3, 12, 13];
 /// A list so short is gathered to its end.
 const FEW_SVIDS: usize = 6;
-
-#[derive(Clone, Copy)]
-pub enum Sort {
-    /// About two hundred pages, with or without an end.
-    TwoHundred {
-        side: Side,
-        length: usize,
-        ends: bool,
-    },
-    /// A gathering to its end, some of whose exchanges fail.
-    Whole { side: Side, length: usize },
-    /// Gatherings of both sides to their ends.
-    Both { lengths: Sides<usize> },
-    /// A few exchanges, of a sort that the round fixes.
-    Few {
-        side: Side,
-        length: usize,
-        round: u64,
-    },
-}
-
-impl Sort {
-    pub fn of(number: u64) -> Self {
-        if number < LONG {
-            let (side, length) = LONG_LISTS[number as usize / 2];
-            let ends = number.is_multiple_of(2);
-            return Sort::TwoHundred { side, length, ends };
-        }
-        let number = number - LONG;
-        let length = (number % LENGTHS) as usize;
-        match number / LENGTHS {
-            PARTNER_ROUND => Sort::Whole {
-                side: Side::Partner,
-                length,
-            },
-            CABLE_ROUND => Sort::Whole {
-                side: Side::Cable,
-                length,
-            },
-            BOTH_ROUND => Sort::Both {
-                lengths: Sides {
-                    partner: length / 3,
-                    cable: (MOST_SVIDS - length) / 3,
-                },
-            },
-            round => Sort::Few {
-                side: Side::BOTH[number as usize % 2],
-                length,
-                round,
-            },
-        }
-    }
-
-    pub fn lengths(self, random: &mut Random) -> Sides<usize> {
-        let (side, length) = match self {
-            Sort::Both { lengths } => return lengths,
-            Sort::TwoHundred { side, length, .. } => (side, length),
-            Sort::Whole { side, length } | Sort::Few { side, length, .. } => (side, length),
-        };
-        let other = random.one_of(&OTHER_LISTS);
-        Sides::each(|each| if each == side { length } else { other })
-    }
-}
 
 impl Generator {
     pub(super) fn short(&mut self, sort: Sort) {
@@ -217,9 +135,11 @@ impl Generator {
         }
     }
 
-    /// Enters and exits over the link, of the first mode of what is held and of a drawn one.
+    /// Enters and exits over the link, of the first mode of what is held and of a drawn one; the
+    /// other side asks before and after.
     fn few_modes(&mut self) {
         let (side, position) = (self.side, 1);
+        self.at_other(Self::exchange);
         for svid in self.held_svids() {
             let enter = Call::Enter {
                 side,
@@ -238,5 +158,6 @@ impl Generator {
         }
         self.drawn_mode();
         self.finish();
+        self.at_other(Self::exchange);
     }
 }

@@ -19,9 +19,10 @@ const WATCHER: &str = "event refusal sent pages held\n\
 const DOCK: &str = "event refusal length buffer standing page count\n\
     1 10 0 5A5A ready 0 0\n\
     end 1 events\n";
-const LINK: &str = "stream event permitted refusal pages candidate held catalogue page lost\n\
-    1 1 permitted 9 0 none - - 0 0\n\
-    1 2 - - 0 none 1 E3C0FFF3 0 0\n\
+const LINK: &str = "stream event side permitted refusal pages candidate held catalogue page lost \
+    other_pages other_candidate other_held\n\
+    1 1 partner permitted 9 0 none - - 0 0 0 none -\n\
+    1 2 cable - - 0 none 1 E3C0FFF3 0 0 0 none -\n\
     end 2 events\n";
 
 fn reached(texts: &[&str]) -> Reached {

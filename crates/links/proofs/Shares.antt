@@ -4,10 +4,6 @@ use mathlib.Core.Bool.{Bool, true, false, cond, not, _||_, false≢true}
 use mathlib.Core.List.{List, [], _∷_}
 use Prim.Native.Nat.{ℕ}
 use Rattle.messages.specs.Reading.{readOutcome}
-use Rattle.dock.specs.Data.{listed}
-use Rattle.dock.specs.declared.Policy.{Policy}
-use Rattle.dock.specs.declared.Standing.{Standing}
-use Rattle.dock.specs.declared.Standing.the-variants.{Ready, Asking, Sending}
 use Rattle.laptop.specs.State.{Memory}
 use Rattle.laptop.specs.declared.Laptop.{Laptop}
 use Rattle.laptop.specs.declared.Wait.the-variants.{Nothing as Laptop·Nothing}
@@ -23,7 +19,7 @@ use Rattle.port_laws.specs.Leaving.{isOthersCall, isBlocked, isLeftOut}
 use Rattle.port_laws.proofs.OneCall.{put-on, kept-in, own-side, concerns-other, own-seen}
 use Rattle.port_laws.proofs.Seeing.{message-idle}
 use Rattle.port_laws.proofs.Sides.{other-unchanged, seen-put, seen-put-idle, idle-seen, Waits, own-waits, other-waits, none-waits, waits}
-use Rattle.link.specs.Joined.{Way, clear, request, Fate, gone, coming, confirmed, came, System}
+use Rattle.link.specs.Joined.{Fate, gone, coming, confirmed, came, System}
 use Rattle.link.specs.Joined.{Event as Link·Event}
 use Rattle.link.specs.Joined.{calls as Link·calls}
 use Rattle.link.specs.Joined.{loseRequest as Link·loseRequest}
@@ -33,11 +29,12 @@ use Rattle.link.specs.Joined.{loseAnswer as Link·loseAnswer}
 use Rattle.link.specs.Joined.{arrive as Link·arrive}
 use Rattle.link.specs.Joined.{sent as Link·sent}
 use Rattle.link.specs.Joined.{failed as Link·failed}
-use Rattle.link.specs.Ends.{laptopDoes, dockAnswers}
-use Rattle.link.specs.Link.{afterCall, reaches, isFair, brought, answers, answeredBy, arrives, hearsSent, hearsFailed, losesAnswer}
+use Rattle.link.specs.Ends.{laptopDoes}
+use Rattle.link.specs.Link.{afterCall, arrives}
 use Rattle.link.specs.Link.{called as Link·called}
 use Rattle.link.specs.Link.{step as Link·step}
 use Rattle.link.specs.Link.{run as Link·run}
+use Rattle.unharmed.proofs.Runs.{reaches-aside, answers-aside, loses-aside, sent-aside, failed-aside}
 use Rattle.links.specs.Joint.{FarEnd, Joint, farEnd, systemWith, systemSeen, joined, keptIn, Event, calls, loseRequest, reach, answer, loseAnswer, arrive, sent, failed, isMessage, isIdle, isUnheard, calledOn, called, onLink, step, run}
 use Rattle.links.specs.Share.{oneSidedEvent, isAway, share}
 
@@ -63,43 +60,8 @@ system-other Partner Cable l p far j e f = ap (λ (x : Laptop). record { laptop 
 system-other Cable Partner l p far j e f = ap (λ (x : Laptop). record { laptop = x; memory = j .partner .memory; way = j .partner .way; fate = j .partner .fate; dock = j .partner .dock; lost = j .partner .lost }) (ap (seen Partner) f ∙ other-unchanged Cable Partner l (j .port) e)
 system-other Cable Cable l p far j e f = absurd (false≢true (sym e))
 
--- on a link, the dock's part leaves the laptop as it was
+-- on a link, where a side awaits nothing it awaits nothing afterwards
 module _ (modesOf : ℕ → List ℕ) where
-  reaches-laptop : (out : List ℕ) (way : Way) (fate : Fate) (s : System) → reaches out way fate s .laptop ≡ s .laptop
-  reaches-laptop out clear fate s = refl
-  reaches-laptop out (request bytes) gone s = refl
-  reaches-laptop out (request bytes) (coming a) s = refl
-  reaches-laptop out (request bytes) (confirmed a) s = refl
-  reaches-laptop out (request bytes) (came b) s = refl
-
-  answers-laptop : (policy : Policy) (out : List ℕ) (standing : Standing) (s : System) → answers modesOf policy out standing s .laptop ≡ s .laptop
-  answers-laptop policy out Ready s = refl
-  answers-laptop policy out (Asking r) s = go (isFair policy r (listed (s .dock)))
-    where
-      go : (t : Bool) → cond t (answeredBy out (dockAnswers (s .dock) policy r (brought modesOf policy r)) s) s .laptop ≡ s .laptop
-      go true = refl
-      go false = refl
-  answers-laptop policy out (Sending isPage) s = refl
-
-  loses-laptop : (fate : Fate) (s : System) → losesAnswer fate s .laptop ≡ s .laptop
-  loses-laptop gone s = refl
-  loses-laptop (coming bytes) s = refl
-  loses-laptop (confirmed bytes) s = refl
-  loses-laptop (came b) s = refl
-
-  sent-laptop : (standing : Standing) (fate : Fate) (s : System) → hearsSent standing fate s .laptop ≡ s .laptop
-  sent-laptop Ready fate s = refl
-  sent-laptop (Asking r) fate s = refl
-  sent-laptop (Sending isPage) gone s = refl
-  sent-laptop (Sending isPage) (coming bytes) s = refl
-  sent-laptop (Sending isPage) (confirmed bytes) s = refl
-  sent-laptop (Sending isPage) (came b) s = refl
-
-  failed-laptop : (standing : Standing) (s : System) → hearsFailed standing s .laptop ≡ s .laptop
-  failed-laptop Ready s = refl
-  failed-laptop (Asking r) s = refl
-  failed-laptop (Sending isPage) s = refl
-
   -- what arrives leaves a laptop that awaits nothing awaiting nothing
   arrives-idle : (fate : Fate) (s : System) → s .laptop .wait ≡ Laptop·Nothing → arrives fate s .laptop .wait ≡ Laptop·Nothing
   arrives-idle gone s idle = idle
@@ -111,12 +73,12 @@ module _ (modesOf : ℕ → List ℕ) where
   unfolding Link·step
   idle-on-link (Link·calls c out) s f idle = absurd (false≢true (sym f))
   idle-on-link Link·loseRequest s f idle = idle
-  idle-on-link (Link·reach out) s f idle = ap (λ (l : Laptop). l .wait) (reaches-laptop out (s .way) (s .fate) s) ∙ idle
-  idle-on-link (Link·answer policy out) s f idle = ap (λ (l : Laptop). l .wait) (answers-laptop policy out (s .dock .standing) s) ∙ idle
-  idle-on-link Link·loseAnswer s f idle = ap (λ (l : Laptop). l .wait) (loses-laptop (s .fate) s) ∙ idle
+  idle-on-link (Link·reach out) s f idle = ap (λ (l : Laptop). l .wait) (reaches-aside s out (s .way) (s .fate) .0) ∙ idle
+  idle-on-link (Link·answer policy out) s f idle = ap (λ (l : Laptop). l .wait) (answers-aside s modesOf policy out (s .dock .standing) .0) ∙ idle
+  idle-on-link Link·loseAnswer s f idle = ap (λ (l : Laptop). l .wait) (loses-aside s (s .fate) .0) ∙ idle
   idle-on-link Link·arrive s f idle = arrives-idle (s .fate) s idle
-  idle-on-link Link·sent s f idle = ap (λ (l : Laptop). l .wait) (sent-laptop (s .dock .standing) (s .fate) s) ∙ idle
-  idle-on-link Link·failed s f idle = ap (λ (l : Laptop). l .wait) (failed-laptop (s .dock .standing) s) ∙ idle
+  idle-on-link Link·sent s f idle = ap (λ (l : Laptop). l .wait) (sent-aside s (s .dock .standing) (s .fate) .0) ∙ idle
+  idle-on-link Link·failed s f idle = ap (λ (l : Laptop). l .wait) (failed-aside s (s .dock .standing) .0) ∙ idle
 
   -- an event on a side's link is 01's to that side
   link-own : (side : Side) (e : Link·Event) (j : Joint) → isCall e ≡ false → systemSeen side (onLink modesOf side e j) ≡ Link·step modesOf e (systemSeen side j)
@@ -155,7 +117,7 @@ own-concerns side (exit s svid position) w e f = own-side s side e
 own-concerns side (timer first last) w e f = waiter side w e f
 own-concerns side protocolError w e f = waiter side w e f
 
-memory-in : (side : Side) (j : Joint) → memoryOf side (keptIn j) ≡ farEnd side j .memory
+pub memory-in : (side : Side) (j : Joint) → memoryOf side (keptIn j) ≡ farEnd side j .memory
 memory-in Partner j = refl
 memory-in Cable j = refl
 

@@ -13,8 +13,11 @@ use Rattle.laptop_laws.specs.Effects.{timer as Laptop·timer}
 use Rattle.laptop_laws.specs.Effects.{protocolError as Laptop·protocolError}
 use Rattle.port.specs.Sides.{sameSide}
 use Rattle.port.specs.declared.Side.{Side}
+use Rattle.port.specs.declared.Wait.{Wait}
+use Rattle.port.specs.declared.Wait.the-variants.{Nothing, Answer}
 use Rattle.port_laws.specs.Effects.{Call, message, next, startOver, drop, enter, exit, timer, protocolError, oneSided}
 use Rattle.port_laws.specs.Leaving.{isLeftOut}
+use Rattle.link.specs.Exchanges.{exchange, times}
 use Rattle.link.specs.Joined.{Event as Link·Event}
 use Rattle.link.specs.Joined.{calls as Link·calls}
 use Rattle.link.specs.Joined.{loseRequest as Link·loseRequest}
@@ -81,3 +84,11 @@ eventOn side Link·failed = failed side
 abbrev pub eventsOn : Side → List Link·Event → List Event
 eventsOn side [] = []
 eventsOn side (e ∷ events) = eventOn side e ∷ eventsOn side events
+
+-- so many exchanges of a side, and what ends any wait, hears what still arrives and drops the side's candidate
+abbrev pub exchangesOn : Side → ℕ → List ℕ → List Event
+exchangesOn side n out = eventsOn side (times n (exchange out))
+
+abbrev pub toRestOn : Side → Wait → List Event
+toRestOn side Nothing = arrive side ∷ calls (drop side) [] ∷ []
+toRestOn side (Answer named r) = calls protocolError [] ∷ arrive side ∷ calls (drop side) [] ∷ []

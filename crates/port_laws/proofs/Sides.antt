@@ -40,6 +40,10 @@ wait-with : (s : Side) (w : Wait) (own : Own) (p : Port) → withOwn s w own p .
 wait-with Partner w own p = refl
 wait-with Cable w own p = refl
 
+pub wait-after : (s : Side) (l : Laptop) (p : Port) → putBack s l p .wait ≡ waitPut s (l .wait) (p .wait)
+unfolding putBack
+wait-after s l p = wait-with s (waitPut s (l .wait) (p .wait)) (ownIn l) p
+
 -- nothing of the other side changes, whatever is put back
 pub other-unchanged : (s t : Side) (l : Laptop) (p : Port) → sameSide s t ≡ false → seen t (putBack s l p) ≡ seen t p
 unfolding seen putBack

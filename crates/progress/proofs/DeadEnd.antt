@@ -43,7 +43,7 @@ use Rattle.progress.proofs.Exchange.{standing, next-sends}
 use Rattle.progress.proofs.LossFree.{asks-identity, ends-whole}
 
 -- a protocol error ends any wait
-error-ends : (l : Laptop) (w : Wait) (room : ℕ) → l .wait ≡ w → stepOf l (decideError l w) room .laptop .wait ≡ Nothing
+pub error-ends : (l : Laptop) (w : Wait) (room : ℕ) → l .wait ≡ w → stepOf l (decideError l w) room .laptop .wait ≡ Nothing
 unfolding stepOf decideError over
 error-ends l Nothing room e = e
 error-ends l (Answer r) room e = go (eqb (r .command) 1) (ltb (r .command) 4) _

@@ -8,9 +8,9 @@ use Rattle.messages.specs.declared.request.Request.{Request}
 use Rattle.dock.specs.declared.Dock.{Dock}
 use Rattle.dock.specs.declared.Standing.{Standing}
 use Rattle.dock.specs.declared.Standing.the-variants.{Ready, Asking, Sending}
-use Rattle.controller.specs.Laptop.{lowByte, requestFrom}
+use Rattle.controller.specs.Port.{lowByte, requestFrom}
 use Rattle.controller.specs.Dock.{standingFrom, dockFrom, standingNumbers, numbersWith, dockNumbers}
-use Rattle.controller.proofs.LaptopNumbers.{byte-again}
+use Rattle.controller.proofs.PortNumbers.{byte-again}
 
 pub sending-page : (s : Standing) (isPage : Bool) → s ≡ Sending isPage → isPage ≡ true → (3 ∷ 0 ∷ 0 ∷ 0 ∷ []) ≡ standingNumbers s
 sending-page s isPage es ep = rw (es, ep)

@@ -1,80 +1,76 @@
 -- What the laptop's calls and catalogue writing hand over.
-use mathlib.Core.Path.{_≡_, ap, _∙_}
+use mathlib.Core.Path.{_≡_, ap, subst, _∙_}
 use mathlib.Core.Bool.{Bool, true, false}
 use mathlib.Core.List.{List}
 use Prim.Native.Nat.{ℕ}
 use lib.ListN.{length}
-use denote.Triple.Both.{Both}
-use Rattle.messages.specs.Reading.{readOutcome}
+use Rattle.messages.specs.Reading.{Outcome}
 use Rattle.taking.specs.Taking.{sameList}
-use Rattle.laptop.specs.Calls.{Decision, stepOf, bufferOf, Stepped}
+use Rattle.laptop.specs.Calls.{Decision}
 use Rattle.laptop.specs.Marks.{reported}
-use Rattle.laptop.specs.State.{Memory}
+use Rattle.laptop.specs.State.{Memory, LentMemory}
 use Rattle.laptop.specs.declared.Laptop.{Laptop}
-use Rattle.laptop.specs.declared.Step.{Step}
 use Rattle.hearing.specs.Hearing.{heard}
 use Rattle.catalogue.specs.Bytes.{HeldCatalogue, heldCatalogue, CatalogueWritten}
 use Rattle.catalogue.specs.declared.Bytes.{Bytes}
+use Rattle.port.specs.Calls.{HearsOn, Owners, concerning}
+use Rattle.port.specs.Sides.{ownOf, seen, steppedOn}
+use Rattle.port.specs.declared.Port.{Port}
+use Rattle.port.specs.declared.Side.{Side}
+use Rattle.port.specs.declared.Step.{Step}
 use Rattle.controller.specs.CatalogueCall.{CatalogueCall}
-use Rattle.controller.specs.Laptop.{laptopFrom, laptopNumbers, numbersAfter}
 use Rattle.controller.specs.LaptopCalls.{LaptopStep, LaptopSendsNothing, LaptopSends, LaptopHears}
+use Rattle.controller.specs.Port.{sideNumber, portFrom, portNumbers, numbersAfter}
+use Rattle.controller.specs.Told.{toldNumbers, handedNumbers}
 use Rattle.laws.specs.Lent.{Lent, lent, left, accepted}
-use Rattle.controller.specs.Told.{toldNumbers}
 use Rattle.controller.proofs.Accepting.{accepted-written, accepted-kept}
 
--- the state's numbers, where the laptop is the same and where it is another
-module _ (before : List ℕ) (l : Laptop) {was : Laptop} {t : Bool} (same : t ≡ sameList (laptopNumbers was) (laptopNumbers l)) (was-is : was ≡ laptopFrom before) where
-  pub put-same : t ≡ true → before ≡ numbersAfter before l
+-- the state's numbers, where the port is the same and where it is another
+module _ (before : List ℕ) (p : Port) {t : Bool} (same : t ≡ sameList (portNumbers (portFrom before)) (portNumbers p)) where
+  pub put-same : t ≡ true → before ≡ numbersAfter before p
   unfolding numbersAfter
-  put-same e = rw (← was-is, ← same, e)
+  put-same e = rw (← same, e)
 
-  pub put-other : t ≡ false → {numbers : List ℕ} → numbers ≡ laptopNumbers l → numbers ≡ numbersAfter before l
+  pub put-other : t ≡ false → {numbers : List ℕ} → numbers ≡ portNumbers p → numbers ≡ numbersAfter before p
   unfolding numbersAfter
-  put-other e f = rw (← was-is, ← same, e) f
+  put-other e f = rw (← same, e) f
+
+-- of the side and the port that the numbers stand for
+pub carried : (P : Side → Port → Type 0) {side side' : Side} {p p' : Port} → side ≡ side' → p ≡ p' → P side p → P side' p'
+carried P {side' = side'} {p = p} e f h = subst (P side') f (subst (λ (s : Side). P s p) e h)
 
 -- the state's numbers put, and what is handed over, are a step handed over
-module _ {step : Step} {number : ℕ} {state handed : Lent (List ℕ)} (put : left state ≡ numbersAfter (lent state) (step .laptop))
-    (over : (number ≡ step .refusal) × (left handed ≡ accepted number (toldNumbers (step .length) (step .told)) (lent handed))) where
+module _ {step : Step} {number : ℕ} {state handed : Lent (List ℕ)} (put : left state ≡ numbersAfter (lent state) (step .port))
+    (over : (number ≡ step .refusal) × (left handed ≡ accepted number (handedNumbers step) (lent handed))) where
   step-in : (step' : Step) → step ≡ step' → LaptopStep step' number state handed
   step-in step' e =
       record {
         number-is = over .0 ∙ ap (λ (s : Step). s .refusal) e;
-        state-is = put ∙ ap (λ (s : Step). numbersAfter (lent state) (s .laptop)) e;
-        handed-is = over .1 ∙ ap (λ (s : Step). accepted number (toldNumbers (s .length) (s .told)) (lent handed)) e;
+        state-is = put ∙ ap (λ (s : Step). numbersAfter (lent state) (s .port)) e;
+        handed-is = over .1 ∙ ap (λ (s : Step). accepted number (handedNumbers s) (lent handed)) e;
       }
 
-  module _ {l : Laptop} (laptop-is : l ≡ laptopFrom (lent state)) where
-    pub sends-nothing-in : {decide : Laptop → Decision} → step ≡ stepOf l (decide l) 0 → LaptopSendsNothing decide number state handed
-    sends-nothing-in {decide} e = record { step-is = step-in _ (e ∙ ap (λ (x : Laptop). stepOf x (decide x) 0) laptop-is) }
+  pub sends-nothing-in : {decide : Laptop → Decision} {p : Port} → p ≡ portFrom (lent state) → step ≡ concerning decide p →
+      LaptopSendsNothing decide number state handed
+  sends-nothing-in {decide} e s = record { step-is = step-in _ (s ∙ ap (concerning decide) e) }
 
-    pub sends-in : {decide : Laptop → Decision} {out : Lent (List ℕ)} → Stepped l (decide l) (lent out) step (left out) →
-        LaptopSends decide number state out handed
-    sends-in {decide} {out} s =
-        record {
-          step-is = step-in _ (s .step-is ∙ ap (λ (x : Laptop). stepOf x (decide x) (length (lent out))) laptop-is);
-          buffer-is = s .buffer-is ∙ ap (λ (x : Laptop). bufferOf (decide x) (lent out)) laptop-is;
-        }
+  pub sends-in : {side side' : Side} {p : Port} → side ≡ side' → p ≡ portFrom (lent state) →
+      {decide : Laptop → Decision} {run heldRun : List ℕ} {out : Lent (List ℕ)} → Owners side p decide run heldRun (lent out) step (left out) →
+      LaptopSends side' decide (length run) (length heldRun) number state out handed
+  sends-in e f {decide} {run} {heldRun} {out} s =
+      let owners = carried (λ (x : Side) (q : Port). Owners x q decide run heldRun (lent out) step (left out)) e f s in
+      record { step-is = step-in _ (owners .step-is); buffer-is = owners .buffer-is }
 
-    pub hears-in : {bytes : List ℕ} {memory : Both Memory Memory} →
-        (step ≡ heard l (memory .entry) (readOutcome bytes) .step) × (memory .exit ≡ heard l (memory .entry) (readOutcome bytes) .after) →
-        LaptopHears bytes number state memory handed
-    hears-in {bytes} {memory} s =
-        record {
-          step-is = step-in _ (s .0 ∙ ap (λ (x : Laptop). heard x (memory .entry) (readOutcome bytes) .step) laptop-is);
-          memory-is = s .1 ∙ ap (λ (x : Laptop). heard x (memory .entry) (readOutcome bytes) .after) laptop-is;
-        }
+  pub hears-in : {side : Side} {bytes : List ℕ} {memory : LentMemory} → HearsOn side (portFrom (lent state)) bytes memory step →
+      LaptopHears side bytes number state memory handed
+  hears-in s = record { step-is = step-in _ (s .0); memory-is = s .1 }
 
--- the report, of the laptop that the numbers stand for
-pub report-as : {l l' : Laptop} (svids entered : List ℕ) (svid : ℕ) {n : ℕ} → l ≡ l' → n ≡ reported (l .held) svids entered svid →
-    n ≡ reported (l' .held) svids entered svid
-report-as svids entered svid e h = h ∙ ap (λ (x : Laptop). reported (x .held) svids entered svid) e
+-- what is handed over names the side
+pub handed-as : (step : Step) {side : ℕ} {numbers : List ℕ} → side ≡ sideNumber (step .side) → numbers ≡ toldNumbers (step .length) (step .told) side →
+    numbers ≡ handedNumbers step
+handed-as step e f = f ∙ ap (toldNumbers (step .length) (step .told)) e
 
 -- the catalogue's bytes
-pub held-as : (identity svids modes run : List ℕ) {l l' : Laptop} {words : ℕ} {out after : List ℕ} {result : Bytes} → l ≡ l' →
-    CatalogueWritten (heldCatalogue (l .held) identity svids modes run) words out result after →
-    CatalogueWritten (heldCatalogue (l' .held) identity svids modes run) words out result after
-held-as identity svids modes run e written = rw e at written
-
 module _ {held : HeldCatalogue} {run : List ℕ} {out : Lent (List ℕ)} {bytes : Lent ℕ} {result : Bytes}
     (written : CatalogueWritten held (length run) (lent out) result (left out)) where
   pub wrote : result .refusal ≡ 0 → left bytes ≡ result .length → CatalogueCall held run (result .refusal) out bytes
@@ -92,3 +88,21 @@ module _ {held : HeldCatalogue} {run : List ℕ} {out : Lent (List ℕ)} {bytes 
         bytes-is = e ∙ accepted-kept (result .refusal) _ (lent bytes) z;
         buffer-is = written .buffer-is;
       }
+
+-- a message, the report, and the catalogue that is held, of the side
+module _ {side side' : Side} {p p' : Port} (side-is : side ≡ side') (port-is : p ≡ p') where
+  pub heard-as : (before : Memory) (o : Outcome) {after : Memory} {step : Step} →
+      (step ≡ steppedOn side p (heard (seen side p) before o .step)) × (after ≡ heard (seen side p) before o .after) →
+      (step ≡ steppedOn side' p' (heard (seen side' p') before o .step)) × (after ≡ heard (seen side' p') before o .after)
+  heard-as before o {after} {step} =
+      carried (λ (x : Side) (q : Port). (step ≡ steppedOn x q (heard (seen x q) before o .step)) × (after ≡ heard (seen x q) before o .after)) side-is port-is
+
+  pub report-as : (svids entered : List ℕ) (svid : ℕ) {n : ℕ} → n ≡ reported (ownOf side p .held) svids entered svid →
+      n ≡ reported (ownOf side' p' .held) svids entered svid
+  report-as svids entered svid {n} = carried (λ (x : Side) (q : Port). n ≡ reported (ownOf x q .held) svids entered svid) side-is port-is
+
+  pub held-as : (identity svids modes run : List ℕ) {words : ℕ} {out after : List ℕ} {result : Bytes} →
+      CatalogueWritten (heldCatalogue (ownOf side p .held) identity svids modes run) words out result after →
+      CatalogueWritten (heldCatalogue (ownOf side' p' .held) identity svids modes run) words out result after
+  held-as identity svids modes run {words} {out} {after} {result} =
+      carried (λ (x : Side) (q : Port). CatalogueWritten (heldCatalogue (ownOf x q .held) identity svids modes run) words out result after) side-is port-is

@@ -1,50 +1,61 @@
 -- What holds of the numbers that a caller lends, by the promises of the calls.
-use mathlib.Core.Path.{_≡_, refl, sym, _∙_}
+use mathlib.Core.Path.{_≡_, refl, ap, sym, _∙_}
 use mathlib.Core.List.{List, []}
 use Prim.Native.Nat.{ℕ}
 use lib.ListN.{length, replicate}
 use denote.Ref.{RefT, now}
-use denote.Triple.Both.{Both}
 use Rattle.dock.specs.Data.{freshDock}
 use Rattle.dock.specs.Dock.{Decision}
 use Rattle.dock.specs.declared.Dock.{Dock}
 use Rattle.laptop.specs.Calls.{Decision as Laptop·Decision}
 use Rattle.laptop.specs.Marks.{reported}
-use Rattle.laptop.specs.State.{Memory, freshLaptop}
+use Rattle.laptop.specs.State.{Memory, LentMemory}
 use Rattle.laptop.specs.declared.Laptop.{Laptop}
 use Rattle.catalogue.specs.Bytes.{HeldCatalogue}
 use Rattle.owner.specs.Owner.{decideNext, decideStartOver, decideDrop, decideEnter, decideExit}
 use Rattle.timers.specs.Timers.{decideTimer, decideError}
 use Rattle.laptop_laws.specs.Effects.{message, next, startOver, drop, enter, exit, timer, protocolError}
+use Rattle.laptop_laws.proofs.Refusing.{refusal-state}
+use Rattle.port.specs.Calls.{waitingSide}
+use Rattle.port.specs.Sides.{ownOf, seen, putBack, freshPort}
+use Rattle.port.specs.declared.Port.{Port}
+use Rattle.port.specs.declared.Side.{Side}
 use Rattle.controller.specs.CatalogueCall.{CatalogueCall}
 use Rattle.controller.specs.CatalogueReading.{arraysOf, readOf, ReadCall, placeOf, StretchCall}
 use Rattle.rebuilding.proofs.Laws.{refused-leaves}
 use Rattle.controller.specs.Dock.{dockFrom, dockNumbers}
 use Rattle.controller.specs.DockCalls.{DockSendsNothing, DockSends, DockLoads}
-use Rattle.controller.specs.Laptop.{laptopFrom, laptopNumbers, numbersAfter}
 use Rattle.controller.specs.LaptopCalls.{LaptopSendsNothing, LaptopSends, LaptopHears}
+use Rattle.controller.specs.Port.{sideFrom, sideNumber, portFrom, portNumbers, numbersAfter}
 use Rattle.laws.specs.Lent.{Lent, lent, left, leaving}
 use Rattle.controller.proofs.DockNumbers.{from-numbers}
 use Rattle.controller.proofs.DockNumbers.{Fits as Dock·Fits}
-use Rattle.controller.proofs.LaptopNumbers.{from-numbers as Laptop·from-numbers}
-use Rattle.controller.proofs.LaptopNumbers.{Fits, numbers-stand, numbers-stay}
+use Rattle.controller.proofs.PortNumbers.{from-numbers as Port·from-numbers}
+use Rattle.controller.proofs.PortNumbers.{Fits, side-again, numbers-stand, numbers-stay}
 use Rattle.controller.proofs.Only.{accepted-only, dock-step-only, laptop-step-only}
-use Rattle.controller.proofs.Refusing.{LaptopLeft, nothingLent, dock-step-left, dock-buffer-left, laptop-left, laptop-buffer-left, memory-left, catalogue-left}
+use Rattle.controller.proofs.Refusing.{LaptopLeft, nothingLent, put-back-seen, dock-step-left, dock-buffer-left, laptop-left, owners-left, owners-buffer-left, memory-left, catalogue-left}
 use Rattle.controller.proofs.Accepting.{refused-kept}
 
 -- numbers made of a state stand for it
 pub dock-again : (d : Dock) → Dock·Fits d → dockFrom (dockNumbers d) (d .identity) (d .svids) ≡ d
 dock-again = from-numbers
 
-pub laptop-again : (l : Laptop) → Fits l → laptopFrom (laptopNumbers l) ≡ l
-laptop-again = Laptop·from-numbers
+pub port-again : (p : Port) → Fits p → portFrom (portNumbers p) ≡ p
+port-again = Port·from-numbers
 
--- after a laptop's call the numbers stand for its laptop, and where that is the one that they stood for they are as they were lent
-pub after-stands : (before : List ℕ) (l : Laptop) → Fits l → laptopFrom (numbersAfter before l) ≡ l
+pub side-number-again : (side : Side) → sideFrom (sideNumber side) ≡ side
+side-number-again = side-again
+
+-- after a laptop's call the numbers stand for its port, and where that is the one that they stood for they are as they were lent
+pub after-stands : (before : List ℕ) (p : Port) → Fits p → portFrom (numbersAfter before p) ≡ p
 after-stands = numbers-stand
 
-pub after-stays : (before : List ℕ) → numbersAfter before (laptopFrom before) ≡ before
+pub after-stays : (before : List ℕ) → numbersAfter before (portFrom before) ≡ before
 after-stays = numbers-stay
+
+-- so they are where a side's laptop is the one that it was
+pub after-left-alone : (side : Side) (before : List ℕ) → numbersAfter before (putBack side (seen side (portFrom before)) (portFrom before)) ≡ before
+after-left-alone side before = ap (numbersAfter before) (put-back-seen side (portFrom before)) ∙ numbers-stay before
 
 -- a refusal of a dock's call leaves all that was lent
 module _ {decide : Dock → Decision} {number : ℕ} {state identity svids : Lent (List ℕ)} {bytes : Lent ℕ} (refused : number ≡ 0 → ⊥) where
@@ -64,46 +75,58 @@ dock-loads-refusal refused p =
     let (state-left, bytes-left) = dock-step-left (p .step-is) refused in
     (state-left, refused-kept _ refused (p .identity-is), refused-kept _ refused (p .svids-is), bytes-left)
 
--- a refusal of a laptop's call hands nothing over, and leaves the numbers of the state that 01 says: those that were lent, but for 6 with a late page, 8 and 14
+-- a refusal of a laptop's call hands nothing over, and leaves the numbers of the state that 01 says of its side: those that were lent, but for 6 with a late page, 8 and 14
 module _ {number : ℕ} {state handed : Lent (List ℕ)} (refused : number ≡ 0 → ⊥) where
-  module _ (m : Memory) {out : Lent (List ℕ)} where
-    pub next-refusal : LaptopSends (λ l. decideNext l (m .svids) (m .entered) (length (m .run)) (length (m .heldRun))) number state out handed →
-        LaptopLeft next number state handed
-    next-refusal p = laptop-left next m (lent out) (p .step-is) refused
+  module _ (side : Side) (m : Memory) {out : Lent (List ℕ)} where
+    pub next-refusal :
+        LaptopSends side (λ l. decideNext l (m .svids) (m .entered) (length (m .run)) (length (m .heldRun))) (length (m .run)) (length (m .heldRun))
+        number state out handed → LaptopLeft side next number state handed
+    next-refusal p = owners-left side _ _ _ p refused next (refusal-state next (seen side (portFrom (lent state))) m (lent out))
 
-    pub start-over-refusal : LaptopSends (λ l. decideStartOver l (m .entered) (length (m .run)) (length (m .heldRun))) number state out handed →
-        LaptopLeft startOver number state handed
-    start-over-refusal p = laptop-left startOver m (lent out) (p .step-is) refused
+    pub start-over-refusal :
+        LaptopSends side (λ l. decideStartOver l (m .entered) (length (m .run)) (length (m .heldRun))) (length (m .run)) (length (m .heldRun))
+        number state out handed → LaptopLeft side startOver number state handed
+    start-over-refusal p = owners-left side _ _ _ p refused startOver (refusal-state startOver (seen side (portFrom (lent state))) m (lent out))
 
-    pub drop-refusal : LaptopSends (λ l. decideDrop l (length (m .run)) (length (m .heldRun))) number state out handed → LaptopLeft drop number state handed
-    drop-refusal p = laptop-left drop m (lent out) (p .step-is) refused
+    pub drop-refusal :
+        LaptopSends side (λ l. decideDrop l (length (m .run)) (length (m .heldRun))) (length (m .run)) (length (m .heldRun))
+        number state out handed → LaptopLeft side drop number state handed
+    drop-refusal p = owners-left side _ _ _ p refused drop (refusal-state drop (seen side (portFrom (lent state))) m (lent out))
 
     pub enter-refusal : (svid position : ℕ) →
-        LaptopSends (λ l. decideEnter l (m .heldSvids) (m .heldModes) (m .entered) (length (m .run)) (length (m .heldRun)) svid position) number state out handed →
-        LaptopLeft (enter svid position) number state handed
-    enter-refusal svid position p = laptop-left (enter svid position) m (lent out) (p .step-is) refused
+        LaptopSends side (λ l. decideEnter l (m .heldSvids) (m .heldModes) (m .entered) (length (m .run)) (length (m .heldRun)) svid position) (length (m .run)) (length (m .heldRun))
+        number state out handed → LaptopLeft side (enter svid position) number state handed
+    enter-refusal svid position p = owners-left side _ _ _ p refused (enter svid position) (refusal-state (enter svid position) (seen side (portFrom (lent state))) m (lent out))
 
     pub exit-refusal : (svid position : ℕ) →
-        LaptopSends (λ l. decideExit l (m .heldSvids) (m .heldModes) (m .entered) (length (m .run)) (length (m .heldRun)) svid position) number state out handed →
-        LaptopLeft (exit svid position) number state handed
-    exit-refusal svid position p = laptop-left (exit svid position) m (lent out) (p .step-is) refused
+        LaptopSends side (λ l. decideExit l (m .heldSvids) (m .heldModes) (m .entered) (length (m .run)) (length (m .heldRun)) svid position) (length (m .run)) (length (m .heldRun))
+        number state out handed → LaptopLeft side (exit svid position) number state handed
+    exit-refusal svid position p = owners-left side _ _ _ p refused (exit svid position) (refusal-state (exit svid position) (seen side (portFrom (lent state))) m (lent out))
 
-  pub timer-refusal : (first last : ℕ) → LaptopSendsNothing (λ l. decideTimer first last l (l .wait)) number state handed → LaptopLeft (timer first last) number state handed
-  timer-refusal first last p = laptop-left (timer first last) nothingLent [] (p .step-is) refused
+  pub timer-refusal : (first last : ℕ) → LaptopSendsNothing (λ l. decideTimer first last l (l .wait)) number state handed →
+      LaptopLeft (waitingSide (portFrom (lent state) .wait)) (timer first last) number state handed
+  timer-refusal first last p =
+      let side : Side = waitingSide (portFrom (lent state) .wait) in
+      laptop-left side (timer first last) _ (refusal-state (timer first last) (seen side (portFrom (lent state))) nothingLent []) (p .step-is) refused
 
-  pub error-refusal : LaptopSendsNothing (λ l. decideError l (l .wait)) number state handed → LaptopLeft protocolError number state handed
-  error-refusal p = laptop-left protocolError nothingLent [] (p .step-is) refused
+  pub error-refusal : LaptopSendsNothing (λ l. decideError l (l .wait)) number state handed →
+      LaptopLeft (waitingSide (portFrom (lent state) .wait)) protocolError number state handed
+  error-refusal p =
+      let side : Side = waitingSide (portFrom (lent state) .wait) in
+      laptop-left side protocolError _ (refusal-state protocolError (seen side (portFrom (lent state))) nothingLent []) (p .step-is) refused
 
-  pub message-refusal : {bytes : List ℕ} {memory : Both Memory Memory} → LaptopHears bytes number state memory handed → LaptopLeft (message bytes) number state handed
-  message-refusal {bytes} {memory} p = laptop-left (message bytes) (memory .entry) [] (p .step-is) refused
+  pub message-refusal : {side : Side} {bytes : List ℕ} {memory : LentMemory} → LaptopHears side bytes number state memory handed →
+      LaptopLeft side (message bytes) number state handed
+  message-refusal {side} {bytes} {memory} p =
+      laptop-left side (message bytes) _ (refusal-state (message bytes) (seen side (portFrom (lent state))) (memory .entry) []) (p .step-is) refused
 
 -- it leaves the output buffer, and all nine arrays and runs
-pub laptop-sends-refusal : {decide : Laptop → Laptop·Decision} {number : ℕ} {state out handed : Lent (List ℕ)} → (number ≡ 0 → ⊥) →
-    LaptopSends decide number state out handed → left out ≡ lent out
-laptop-sends-refusal refused p = laptop-buffer-left p refused
+pub laptop-sends-refusal : {side : Side} {decide : Laptop → Laptop·Decision} {run heldRun number : ℕ} {state out handed : Lent (List ℕ)} → (number ≡ 0 → ⊥) →
+    LaptopSends side decide run heldRun number state out handed → left out ≡ lent out
+laptop-sends-refusal refused p = owners-buffer-left _ _ _ _ p refused
 
-pub laptop-hears-refusal : {bytes : List ℕ} {number : ℕ} {state handed : Lent (List ℕ)} {memory : Both Memory Memory} → (number ≡ 0 → ⊥) →
-    LaptopHears bytes number state memory handed → memory .exit ≡ memory .entry
+pub laptop-hears-refusal : {side : Side} {bytes : List ℕ} {number : ℕ} {state handed : Lent (List ℕ)} {memory : LentMemory} → (number ≡ 0 → ⊥) →
+    LaptopHears side bytes number state memory handed → memory .exit ≡ memory .entry
 laptop-hears-refusal refused p = memory-left p refused
 
 -- a refusal of catalogue writing leaves the number of bytes and the output buffer
@@ -151,14 +174,15 @@ module _ {number number′ : ℕ} {state handed : Lent (List ℕ)} {state′ han
       (number ≡ number′) × (left state ≡ now state′) × (left handed ≡ now handed′)
   laptop-sends-nothing-only p p′ = laptop-step-only (p .step-is) (p′ .step-is)
 
-  pub laptop-sends-only : {decide : Laptop → Laptop·Decision} {out : Lent (List ℕ)} {out′ : RefT (List ℕ)} →
-      LaptopSends decide number state out handed → LaptopSends decide number′ (leaving state state′) (leaving out out′) (leaving handed handed′) →
+  pub laptop-sends-only : {side : Side} {decide : Laptop → Laptop·Decision} {run heldRun : ℕ} {out : Lent (List ℕ)} {out′ : RefT (List ℕ)} →
+      LaptopSends side decide run heldRun number state out handed →
+      LaptopSends side decide run heldRun number′ (leaving state state′) (leaving out out′) (leaving handed handed′) →
       ((number ≡ number′) × (left state ≡ now state′) × (left handed ≡ now handed′)) × (left out ≡ now out′)
   laptop-sends-only p p′ = (laptop-step-only (p .step-is) (p′ .step-is), p .buffer-is ∙ sym (p′ .buffer-is))
 
-  pub laptop-hears-only : {bytes : List ℕ} {before after after′ : Memory} →
-      LaptopHears bytes number state (record { entry = before; exit = after }) handed →
-      LaptopHears bytes number′ (leaving state state′) (record { entry = before; exit = after′ }) (leaving handed handed′) →
+  pub laptop-hears-only : {side : Side} {bytes : List ℕ} {before after after′ : Memory} →
+      LaptopHears side bytes number state (record { entry = before; exit = after }) handed →
+      LaptopHears side bytes number′ (leaving state state′) (record { entry = before; exit = after′ }) (leaving handed handed′) →
       ((number ≡ number′) × (left state ≡ now state′) × (left handed ≡ now handed′)) × (after ≡ after′)
   laptop-hears-only p p′ = (laptop-step-only (p .step-is) (p′ .step-is), p .memory-is ∙ sym (p′ .memory-is))
 
@@ -186,10 +210,13 @@ pub dock-fresh-only : {state identity svids state′ identity′ svids′ : List
     (state ≡ state′) × (identity ≡ identity′) × (svids ≡ svids′)
 dock-fresh-only p p′ = (p .0 ∙ sym (p′ .0), p .1 ∙ sym (p′ .1), p .2 ∙ sym (p′ .2))
 
-pub laptop-fresh-only : {state entered state′ entered′ : List ℕ} → (state ≡ laptopNumbers freshLaptop) × (entered ≡ replicate 72 0) →
-    (state′ ≡ laptopNumbers freshLaptop) × (entered′ ≡ replicate 72 0) → (state ≡ state′) × (entered ≡ entered′)
-laptop-fresh-only p p′ = (p .0 ∙ sym (p′ .0), p .1 ∙ sym (p′ .1))
+pub laptop-fresh-only : {state partner cable state′ partner′ cable′ : List ℕ} →
+    (state ≡ portNumbers freshPort) × (partner ≡ replicate 72 0) × (cable ≡ replicate 72 0) →
+    (state′ ≡ portNumbers freshPort) × (partner′ ≡ replicate 72 0) × (cable′ ≡ replicate 72 0) →
+    (state ≡ state′) × (partner ≡ partner′) × (cable ≡ cable′)
+laptop-fresh-only p p′ = (p .0 ∙ sym (p′ .0), p .1 ∙ sym (p′ .1), p .2 ∙ sym (p′ .2))
 
-pub report-only : (state heldSvids entered : List ℕ) (svid number number′ : ℕ) → number ≡ reported (laptopFrom state .held) heldSvids entered svid →
-    number′ ≡ reported (laptopFrom state .held) heldSvids entered svid → number ≡ number′
-report-only state heldSvids entered svid number number′ e e′ = e ∙ sym e′
+pub report-only : (side : Side) (state heldSvids entered : List ℕ) (svid number number′ : ℕ) →
+    number ≡ reported (ownOf side (portFrom state) .held) heldSvids entered svid →
+    number′ ≡ reported (ownOf side (portFrom state) .held) heldSvids entered svid → number ≡ number′
+report-only side state heldSvids entered svid number number′ e e′ = e ∙ sym e′

@@ -3,10 +3,10 @@ pub mod Accepting
 pub mod DockHanding
 pub mod DockNumbers
 pub mod LaptopHanding
-pub mod LaptopNumbers
-pub mod LaptopSame
 pub mod Laws
 pub mod Only
+pub mod PortNumbers
+pub mod PortSame
 pub mod ReadingBack
 pub mod Refusing
 pub mod Reserved

@@ -4,7 +4,7 @@ use mathlib.Core.List.{List}
 use Prim.Native.Nat.{ℕ}
 use denote.Ref.{RefT, now}
 use Rattle.dock.specs.declared.Step.{Step}
-use Rattle.laptop.specs.declared.Step.{Step as Laptop·Step}
+use Rattle.port.specs.declared.Step.{Step as Port·Step}
 use Rattle.controller.specs.DockCalls.{DockStep}
 use Rattle.controller.specs.LaptopCalls.{LaptopStep}
 use Rattle.laws.specs.Lent.{Lent, lent, left, leaving, accepted}
@@ -20,7 +20,7 @@ dock-step-only {state = state} {bytes = bytes} p p′ =
     let same = p .number-is ∙ sym (p′ .number-is) in
     (same, accepted-only _ (lent state) same (p .state-is) (p′ .state-is), accepted-only _ (lent bytes) same (p .bytes-is) (p′ .bytes-is))
 
-pub laptop-step-only : {step : Laptop·Step} {number number′ : ℕ} {state handed : Lent (List ℕ)} {state′ handed′ : RefT (List ℕ)} →
+pub laptop-step-only : {step : Port·Step} {number number′ : ℕ} {state handed : Lent (List ℕ)} {state′ handed′ : RefT (List ℕ)} →
     LaptopStep step number state handed → LaptopStep step number′ (leaving state state′) (leaving handed handed′) →
     (number ≡ number′) × (left state ≡ now state′) × (left handed ≡ now handed′)
 laptop-step-only {handed = handed} p p′ =

@@ -1,11 +1,11 @@
 -- Bit 5 of a message's header means nothing to the functions for C, and none of them gives refusal 4 (02, R-2).
 use mathlib.Core.Logic.{_↔_, _⊎_, inl, inr}
 use mathlib.Core.Path.{_≡_, ap, subst, sym, _∙_}
+use mathlib.Core.Bool.{Bool, true, false, cond}
 use mathlib.Core.List.{List, []}
 use Prim.Native.Nat.{ℕ, _%_, _≤_}
 use native.Mathlib.Omega.{arith}
 use lib.ListN.{length}
-use denote.Triple.Both.{Both}
 use Rattle.laws.specs.Lent.{Lent, lent}
 use Rattle.messages.specs.Layout.{withReservedClear}
 use Rattle.messages.specs.Reading.{Outcome, readOutcome}
@@ -16,21 +16,27 @@ use Rattle.dock.specs.declared.Policy.{Policy}
 use Rattle.dock_laws.specs.Effects.{load, policyAnswer, sent, failed}
 use Rattle.dock_laws.specs.Effects.{message as Dock·message}
 use Rattle.dock_laws.proofs.Given.{never-four as Dock·never-four}
-use Rattle.laptop.specs.State.{Memory}
-use Rattle.laptop_laws.specs.Effects.{Call, message, next, startOver, drop, enter, exit, timer, protocolError, effectOf}
+use Rattle.laptop.specs.Calls.{Decision, stepOf, unless, shortRuns}
+use Rattle.laptop.specs.State.{Memory, LentMemory}
+use Rattle.laptop.specs.declared.Laptop.{Laptop}
+use Rattle.laptop_laws.specs.Effects.{message, next, startOver, drop, enter, exit, timer, protocolError}
 use Rattle.laptop_laws.proofs.CatalogueGiven.{catalogue-never-four}
 use Rattle.laptop_laws.proofs.Given.{never-four}
 use Rattle.catalogue.specs.Bytes.{HeldCatalogue}
 use Rattle.hearing.specs.Hearing.{heard}
 use Rattle.owner.specs.Owner.{decideNext, decideStartOver, decideDrop, decideEnter, decideExit}
 use Rattle.timers.specs.Timers.{decideTimer, decideError}
+use Rattle.port.specs.Calls.{isWaiting, ownersRefusal, waitingSide}
+use Rattle.port.specs.Sides.{seen, steppedOn}
+use Rattle.port.specs.declared.Port.{Port}
+use Rattle.port.specs.declared.Side.{Side}
 use Rattle.rebuilding.proofs.Laws.{only-these}
 use Rattle.stretches.proofs.Laws.{only-these as Stretch·only-these}
 use Rattle.controller.specs.CatalogueCall.{CatalogueCall}
 use Rattle.controller.specs.CatalogueReading.{withOffset, readOf, ReadCall, placeOf, StretchCall}
 use Rattle.controller.specs.DockCalls.{dockLent, DockSendsNothing, DockSends, DockLoads}
-use Rattle.controller.specs.Laptop.{laptopFrom}
 use Rattle.controller.specs.LaptopCalls.{LaptopStep, LaptopSendsNothing, LaptopSends, LaptopHears}
+use Rattle.controller.specs.Port.{portFrom}
 use Rattle.controller.proofs.Refusing.{nothingLent}
 
 -- what is promised of a message with bit 5 clear is promised of the message with bit 5 set, and the other way round: the number, the state, what is
@@ -44,14 +50,17 @@ dock-message-same bytes {number} {state} {identity} {svids} {out} {handed} =
     promise : Outcome → Type 0
     promise o = DockSends (λ d. decideMessage d o) number state identity svids out handed
 
-module _ {number : ℕ} {state handed : Lent (List ℕ)} {memory : Both Memory Memory} where
-  heard-same : (a b : List ℕ) → readOutcome a ≡ readOutcome b → LaptopHears a number state memory handed → LaptopHears b number state memory handed
-  heard-same a b e p = record {
-    step-is = subst (λ (o : Outcome). LaptopStep (heard (laptopFrom (lent state)) (memory .entry) o .step) number state handed) e (p .step-is);
-    memory-is = p .memory-is ∙ ap (λ (o : Outcome). heard (laptopFrom (lent state)) (memory .entry) o .after) e;
-  }
+module _ {side : Side} {number : ℕ} {state handed : Lent (List ℕ)} {memory : LentMemory} where
+  heard-same : (a b : List ℕ) → readOutcome a ≡ readOutcome b → LaptopHears side a number state memory handed → LaptopHears side b number state memory handed
+  heard-same a b e p =
+      let port : Port = portFrom (lent state) in
+      record {
+        step-is = subst (λ (o : Outcome). LaptopStep (steppedOn side port (heard (seen side port) (memory .entry) o .step)) number state handed) e (p .step-is);
+        memory-is = p .memory-is ∙ ap (λ (o : Outcome). heard (seen side port) (memory .entry) o .after) e;
+      }
 
-  pub laptop-message-same : (bytes : List ℕ) → LaptopHears (withReservedClear bytes) number state memory handed ↔ LaptopHears bytes number state memory handed
+  pub laptop-message-same : (bytes : List ℕ) →
+      LaptopHears side (withReservedClear bytes) number state memory handed ↔ LaptopHears side bytes number state memory handed
   laptop-message-same bytes = (heard-same _ _ (reserved-ignored bytes), heard-same _ _ (sym (reserved-ignored bytes)))
 
 -- the dock's functions do not return 4,
@@ -75,36 +84,59 @@ module _ {number : ℕ} {state identity svids : Lent (List ℕ)} {handed : Lent 
       Dock·never-four (load newIdentity newSvids) (dockLent state identity svids) [] (sym (p .step-is .number-is) ∙ four)
 
 -- nor the laptop's,
+refused-first-not-4 : (l : Laptop) (d : Decision) (room : ℕ) (short waits : Bool) → (stepOf l d room .refusal ≡ 4 → ⊥) →
+    stepOf l (unless (cond short 11 (cond waits 7 0)) l d) room .refusal ≡ 4 → ⊥
+unfolding unless stepOf
+refused-first-not-4 l d room true waits h e = omega arith
+refused-first-not-4 l d room false true h e = omega arith
+refused-first-not-4 l d room false false h e = h e
+
 module _ {number : ℕ} {state handed : Lent (List ℕ)} (four : number ≡ 4) where
-  step-not-4 : (c : Call) (m : Memory) (out : List ℕ) → LaptopStep (effectOf c (laptopFrom (lent state)) m out .step) number state handed → ⊥
-  step-not-4 c m out p = never-four c (laptopFrom (lent state)) m out (sym (p .number-is) ∙ four)
+  module _ (side : Side) (m : Memory) {out : Lent (List ℕ)} where
+    owners-not-4 : (decide : Laptop → Decision) →
+        (stepOf (seen side (portFrom (lent state))) (decide (seen side (portFrom (lent state)))) (length (lent out)) .refusal ≡ 4 → ⊥) →
+        LaptopSends side decide (length (m .run)) (length (m .heldRun)) number state out handed → ⊥
+    unfolding ownersRefusal
+    owners-not-4 decide never p =
+        refused-first-not-4 (seen side (portFrom (lent state))) (decide (seen side (portFrom (lent state)))) (length (lent out))
+        (shortRuns (length (m .run)) (length (m .heldRun))) (isWaiting (portFrom (lent state) .wait)) never (sym (p .step-is .number-is) ∙ four)
 
-  module _ (m : Memory) {out : Lent (List ℕ)} where
-    pub next-not-4 : LaptopSends (λ l. decideNext l (m .svids) (m .entered) (length (m .run)) (length (m .heldRun))) number state out handed → ⊥
-    next-not-4 p = step-not-4 next m (lent out) (p .step-is)
+    pub next-not-4 :
+        LaptopSends side (λ l. decideNext l (m .svids) (m .entered) (length (m .run)) (length (m .heldRun))) (length (m .run)) (length (m .heldRun))
+        number state out handed → ⊥
+    next-not-4 = owners-not-4 _ (never-four next (seen side (portFrom (lent state))) m (lent out))
 
-    pub start-over-not-4 : LaptopSends (λ l. decideStartOver l (m .entered) (length (m .run)) (length (m .heldRun))) number state out handed → ⊥
-    start-over-not-4 p = step-not-4 startOver m (lent out) (p .step-is)
+    pub start-over-not-4 :
+        LaptopSends side (λ l. decideStartOver l (m .entered) (length (m .run)) (length (m .heldRun))) (length (m .run)) (length (m .heldRun))
+        number state out handed → ⊥
+    start-over-not-4 = owners-not-4 _ (never-four startOver (seen side (portFrom (lent state))) m (lent out))
 
-    pub drop-not-4 : LaptopSends (λ l. decideDrop l (length (m .run)) (length (m .heldRun))) number state out handed → ⊥
-    drop-not-4 p = step-not-4 drop m (lent out) (p .step-is)
+    pub drop-not-4 :
+        LaptopSends side (λ l. decideDrop l (length (m .run)) (length (m .heldRun))) (length (m .run)) (length (m .heldRun))
+        number state out handed → ⊥
+    drop-not-4 = owners-not-4 _ (never-four drop (seen side (portFrom (lent state))) m (lent out))
 
     pub enter-not-4 : (svid position : ℕ) →
-        LaptopSends (λ l. decideEnter l (m .heldSvids) (m .heldModes) (m .entered) (length (m .run)) (length (m .heldRun)) svid position) number state out handed → ⊥
-    enter-not-4 svid position p = step-not-4 (enter svid position) m (lent out) (p .step-is)
+        LaptopSends side (λ l. decideEnter l (m .heldSvids) (m .heldModes) (m .entered) (length (m .run)) (length (m .heldRun)) svid position) (length (m .run)) (length (m .heldRun))
+        number state out handed → ⊥
+    enter-not-4 svid position = owners-not-4 _ (never-four (enter svid position) (seen side (portFrom (lent state))) m (lent out))
 
     pub exit-not-4 : (svid position : ℕ) →
-        LaptopSends (λ l. decideExit l (m .heldSvids) (m .heldModes) (m .entered) (length (m .run)) (length (m .heldRun)) svid position) number state out handed → ⊥
-    exit-not-4 svid position p = step-not-4 (exit svid position) m (lent out) (p .step-is)
+        LaptopSends side (λ l. decideExit l (m .heldSvids) (m .heldModes) (m .entered) (length (m .run)) (length (m .heldRun)) svid position) (length (m .run)) (length (m .heldRun))
+        number state out handed → ⊥
+    exit-not-4 svid position = owners-not-4 _ (never-four (exit svid position) (seen side (portFrom (lent state))) m (lent out))
 
   pub timer-not-4 : (first last : ℕ) → LaptopSendsNothing (λ l. decideTimer first last l (l .wait)) number state handed → ⊥
-  timer-not-4 first last p = step-not-4 (timer first last) nothingLent [] (p .step-is)
+  timer-not-4 first last p =
+      never-four (timer first last) (seen (waitingSide (portFrom (lent state) .wait)) (portFrom (lent state))) nothingLent [] (sym (p .step-is .number-is) ∙ four)
 
   pub error-not-4 : LaptopSendsNothing (λ l. decideError l (l .wait)) number state handed → ⊥
-  error-not-4 p = step-not-4 protocolError nothingLent [] (p .step-is)
+  error-not-4 p =
+      never-four protocolError (seen (waitingSide (portFrom (lent state) .wait)) (portFrom (lent state))) nothingLent [] (sym (p .step-is .number-is) ∙ four)
 
-  pub message-not-4 : {bytes : List ℕ} {memory : Both Memory Memory} → LaptopHears bytes number state memory handed → ⊥
-  message-not-4 {bytes} {memory} p = step-not-4 (message bytes) (memory .entry) [] (p .step-is)
+  pub message-not-4 : {side : Side} {bytes : List ℕ} {memory : LentMemory} → LaptopHears side bytes number state memory handed → ⊥
+  message-not-4 {side} {bytes} {memory} p =
+      never-four (message bytes) (seen side (portFrom (lent state))) (memory .entry) [] (sym (p .step-is .number-is) ∙ four)
 
 -- nor those of the catalogue; where the offset is above the number, the low eight bits are not 4
 pub catalogue-not-4 : {held : HeldCatalogue} {run : List ℕ} {number : ℕ} {out : Lent (List ℕ)} {bytes : Lent ℕ} → number ≡ 4 →

@@ -11,7 +11,7 @@ use Rattle.dock.specs.declared.Policy.{Policy}
 use Rattle.dock.specs.declared.Policy.the-variants.{Give, Nak, Busy}
 use Rattle.dock.specs.declared.Standing.{Standing}
 use Rattle.dock.specs.declared.Standing.the-variants.{Ready, Asking, Sending}
-use Rattle.controller.specs.Laptop.{lowByte, requestFrom}
+use Rattle.controller.specs.Port.{lowByte, requestFrom}
 
 -- 1 asking, 2 sending an answer, 3 sending a page, any other ready
 abbrev pub standingFrom : ℕ → Request → Standing

@@ -3,6 +3,6 @@ pub mod CatalogueCall
 pub mod CatalogueReading
 pub mod Dock
 pub mod DockCalls
-pub mod Laptop
 pub mod LaptopCalls
+pub mod Port
 pub mod Told

@@ -1,14 +1,17 @@
-// The held catalogue as bytes.
+// The catalogue that a side holds, as bytes.
 ghost use Rattle.catalogue.specs.Bytes.{heldCatalogue};
 ghost use Rattle.controller.specs.CatalogueCall.{CatalogueCall};
-ghost use Rattle.controller.specs.Laptop.{laptopFrom};
+ghost use Rattle.controller.specs.Port.{sideFrom, portFrom};
 ghost use Rattle.laws.specs.Lent.{lent};
-use crate::laptop_state::laptop_from;
+ghost use Rattle.port.specs.Sides.{ownOf};
+use crate::numbers::side_from;
+use crate::port_state::port_from;
 
-// Writes the held catalogue; `length` is the number of bytes written.
+// Writes the catalogue that the side holds; `length` is the number of bytes written.
 #[no_mangle]
 pub extern "C" fn catalogue_write(
-    state: &[u16; 12],
+    state: &[u16; 20],
+    side: u8,
     held_svids: &[u16; 72],
     held_modes: &[u8; 72],
     held_identity: &[u32; 6],
@@ -17,12 +20,12 @@ pub extern "C" fn catalogue_write(
     length: &mut u16,
 ) -> u8
     ensures { λ r. ⌜ CatalogueCall
-        (heldCatalogue (laptopFrom (lent state) .held) (lent «held_identity») (lent «held_svids») (lent «held_modes») (lent «held_run»))
+        (heldCatalogue (ownOf (sideFrom side) (portFrom (lent state)) .held) (lent «held_identity») (lent «held_svids») (lent «held_modes») (lent «held_run»))
         (lent «held_run») r out length ⌝ }
 {
-    let before = *state;
-    let bytes = catalogue::write_catalogue(
-        laptop_from(before),
+    let bytes = port::write_catalogue(
+        port_from(state),
+        side_from(side),
         held_svids,
         held_modes,
         held_identity,

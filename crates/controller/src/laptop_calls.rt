@@ -2,28 +2,35 @@
 ghost use mathlib.Core.Path.{_≡_};
 ghost use lib.ListN.{replicate};
 ghost use Rattle.laptop.specs.Marks.{reported};
-ghost use Rattle.laptop.specs.State.{memoryLent, freshLaptop};
-ghost use Rattle.controller.specs.Laptop.{laptopFrom, laptopNumbers};
+ghost use Rattle.laptop.specs.State.{memoryLent};
+ghost use Rattle.port.specs.Calls.{HearsOn};
+ghost use Rattle.port.specs.Sides.{ownOf, freshPort};
 ghost use Rattle.controller.specs.LaptopCalls.{LaptopHears};
+ghost use Rattle.controller.specs.Port.{sideFrom, portFrom, portNumbers};
 ghost use Rattle.laws.specs.Lent.{lent, left};
-use crate::laptop_state::laptop_from;
-use crate::laptop_state::laptop_numbers;
-use crate::laptop_state::put_laptop;
+use crate::numbers::side_from;
+use crate::port_state::port_from;
+use crate::port_writing::put_port;
+use crate::port_writing::write_port;
 use crate::told::hand_over;
+use port::Step;
 
-// A fresh laptop.
+// A fresh laptop, on both sides.
 #[no_mangle]
-pub extern "C" fn laptop_fresh(state: &mut [u16; 12], entered: &mut [u8; 72])
-    ensures { λ _. ⌜ (left state ≡ laptopNumbers freshLaptop) × (left entered ≡ replicate 72 0) ⌝ }
+pub extern "C" fn laptop_fresh(
+    state: &mut [u16; 20],
+    partner_entered: &mut [u8; 72],
+    cable_entered: &mut [u8; 72],
+)
+    ensures { λ _. ⌜ (left state ≡ portNumbers freshPort) × (left «partner_entered» ≡ replicate 72 0) × (left «cable_entered» ≡ replicate 72 0) ⌝ }
 {
-    let numbers = laptop_numbers(laptop::fresh(entered));
-    *state = numbers;
+    write_port(port::fresh(partner_entered, cable_entered), state);
 }
 
-// A message from the dock.
-#[no_mangle]
-pub extern "C" fn laptop_message(
-    state: &mut [u16; 12],
+// A function of its own: what it needs on the stack is free when the step is handed over.
+fn hear(
+    state: &[u16; 20],
+    side: u8,
     bytes: &[u8],
     svids: &mut [u16; 72],
     modes: &mut [u8; 72],
@@ -34,14 +41,49 @@ pub extern "C" fn laptop_message(
     held_identity: &mut [u32; 6],
     held_run: &mut [u32],
     entered: &mut [u8; 72],
-    handed: &mut [u32; 7],
+) -> Step
+    ensures { λ r. ⌜ HearsOn (sideFrom side) (portFrom (lent state)) (lent bytes)
+        (memoryLent svids modes identity run «held_svids» «held_modes» «held_identity» «held_run» entered) r ⌝ }
+{
+    port::message(
+        port_from(state),
+        side_from(side),
+        bytes,
+        svids,
+        modes,
+        identity,
+        run,
+        held_svids,
+        held_modes,
+        held_identity,
+        held_run,
+        entered,
+    )
+}
+
+// A message from a side.
+#[no_mangle]
+pub extern "C" fn laptop_message(
+    state: &mut [u16; 20],
+    side: u8,
+    bytes: &[u8],
+    svids: &mut [u16; 72],
+    modes: &mut [u8; 72],
+    identity: &mut [u32; 6],
+    run: &mut [u32],
+    held_svids: &mut [u16; 72],
+    held_modes: &mut [u8; 72],
+    held_identity: &mut [u32; 6],
+    held_run: &mut [u32],
+    entered: &mut [u8; 72],
+    handed: &mut [u32; 8],
 ) -> u8
-    ensures { λ r. ⌜ LaptopHears (lent bytes) r state
+    ensures { λ r. ⌜ LaptopHears (sideFrom side) (lent bytes) r state
         (memoryLent svids modes identity run «held_svids» «held_modes» «held_identity» «held_run» entered) handed ⌝ }
 {
-    let before = *state;
-    let step = hearing::message(
-        laptop_from(before),
+    let step = hear(
+        state,
+        side,
         bytes,
         svids,
         modes,
@@ -53,21 +95,21 @@ pub extern "C" fn laptop_message(
         held_run,
         entered,
     );
-    let after = step.laptop;
-    put_laptop(after, state);
+    let after = step.port;
+    put_port(after, state);
     hand_over(step, handed)
 }
 
-// How many modes of the SVID are entered.
+// How many modes of the SVID are entered on a side.
 #[no_mangle]
 pub extern "C" fn laptop_report(
-    state: &[u16; 12],
+    state: &[u16; 20],
+    side: u8,
     svid: u16,
     held_svids: &[u16; 72],
     entered: &[u8; 72],
 ) -> u32
-    ensures { λ r. ⌜ r ≡ reported (laptopFrom (lent state) .held) (lent «held_svids») (lent entered) svid ⌝ }
+    ensures { λ r. ⌜ r ≡ reported (ownOf (sideFrom side) (portFrom (lent state)) .held) (lent «held_svids») (lent entered) svid ⌝ }
 {
-    let numbers = *state;
-    laptop::report(laptop_from(numbers), svid, held_svids, entered)
+    port::report(port_from(state), side_from(side), svid, held_svids, entered)
 }

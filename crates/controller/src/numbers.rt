@@ -1,7 +1,8 @@
-// Numbers and requests.
+// Numbers, requests and sides.
 ghost use mathlib.Core.Path.{_≡_};
-ghost use Rattle.controller.specs.Laptop.{lowByte, requestFrom};
+ghost use Rattle.controller.specs.Port.{lowByte, requestFrom, sideFrom, sideNumber};
 use messages::Request;
+use port::Side;
 
 // The low eight bits.
 pub(crate) fn low_byte(number: u16) -> u8
@@ -17,5 +18,24 @@ pub(crate) fn request_from(svid: u16, command: u16, position: u16) -> Request
         svid,
         command: low_byte(command),
         position: low_byte(position),
+    }
+}
+
+// 1 the cable, any other the partner.
+pub(crate) fn side_from(number: u8) -> Side
+    ensures { λ r. ⌜ r ≡ sideFrom number ⌝ }
+{
+    if number == 1 {
+        return Side::Cable;
+    }
+    Side::Partner
+}
+
+pub(crate) fn side_number(side: Side) -> u8
+    ensures { λ r. ⌜ r ≡ sideNumber side ⌝ }
+{
+    match side {
+        Side::Partner => 0,
+        Side::Cable => 1,
     }
 }

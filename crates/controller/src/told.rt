@@ -1,17 +1,18 @@
-// What a laptop's call hands over besides the refusal number, as seven numbers: how many bytes of the output buffer are to be sent; what policy
+// What a laptop's call hands over besides the refusal number, as eight numbers: how many bytes of the output buffer are to be sent; what policy
 // is told (0 nothing, 1 an Attention, 2 NAK, 3 BUSY, 4 a timer, 5 a protocol error); the SVID, command and position of the request, or of the
-// Attention, with how many objects follow its header and that object.
+// Attention, with how many objects follow its header and that object; the side (0 the partner, 1 the cable).
 ghost use mathlib.Core.Path.{_≡_};
 ghost use Rattle.laws.specs.Lent.{lent, left, accepted};
-ghost use Rattle.controller.specs.Told.{requestNumbers, noticeNumbers, toldNumbers};
+ghost use Rattle.controller.specs.Told.{requestNumbers, noticeNumbers, toldNumbers, handedNumbers};
+use crate::numbers::side_number;
 use laptop::Notice;
-use laptop::Step;
 use laptop::Told;
 use messages::ATTENTION;
 use messages::Request;
+use port::Step;
 
-fn request_numbers(length: u8, tag: u32, request: Request) -> [u32; 7]
-    ensures { λ r. ⌜ r ≡ requestNumbers length tag request ⌝ }
+fn request_numbers(length: u8, tag: u32, request: Request, side: u8) -> [u32; 8]
+    ensures { λ r. ⌜ r ≡ requestNumbers length tag request side ⌝ }
 {
     [
         length as u32,
@@ -21,11 +22,12 @@ fn request_numbers(length: u8, tag: u32, request: Request) -> [u32; 7]
         request.position as u32,
         0,
         0,
+        side as u32,
     ]
 }
 
-fn notice_numbers(length: u8, notice: Notice) -> [u32; 7]
-    ensures { λ r. ⌜ r ≡ noticeNumbers length notice ⌝ }
+fn notice_numbers(length: u8, notice: Notice, side: u8) -> [u32; 8]
+    ensures { λ r. ⌜ r ≡ noticeNumbers length notice side ⌝ }
 {
     [
         length as u32,
@@ -35,29 +37,31 @@ fn notice_numbers(length: u8, notice: Notice) -> [u32; 7]
         notice.position as u32,
         notice.count as u32,
         notice.object,
+        side as u32,
     ]
 }
 
-fn handed_over(length: u8, told: Told) -> [u32; 7]
-    ensures { λ r. ⌜ r ≡ toldNumbers length told ⌝ }
+fn told_numbers(length: u8, told: Told, side: u8) -> [u32; 8]
+    ensures { λ r. ⌜ r ≡ toldNumbers length told side ⌝ }
 {
     match told {
-        Told::Nothing => [length as u32, 0, 0, 0, 0, 0, 0],
-        Told::Attention(notice) => notice_numbers(length, notice),
-        Told::Nak(request) => request_numbers(length, 2, request),
-        Told::Busy(request) => request_numbers(length, 3, request),
-        Told::Timer(request) => request_numbers(length, 4, request),
-        Told::ProtocolError(request) => request_numbers(length, 5, request),
+        Told::Nothing => [length as u32, 0, 0, 0, 0, 0, 0, side as u32],
+        Told::Attention(notice) => notice_numbers(length, notice, side),
+        Told::Nak(request) => request_numbers(length, 2, request, side),
+        Told::Busy(request) => request_numbers(length, 3, request, side),
+        Told::Timer(request) => request_numbers(length, 4, request, side),
+        Told::ProtocolError(request) => request_numbers(length, 5, request, side),
     }
 }
 
 // On acceptance writes what is handed over into what was lent; gives the refusal number.
-pub(crate) fn hand_over(step: Step, handed: &mut [u32; 7]) -> u8
-    ensures { λ r. ⌜ (r ≡ step .refusal) × (left handed ≡ accepted r (toldNumbers (step .length) (step .told)) (lent handed)) ⌝ }
+pub(crate) fn hand_over(step: Step, handed: &mut [u32; 8]) -> u8
+    ensures { λ r. ⌜ (r ≡ step .refusal) × (left handed ≡ accepted r (handedNumbers step) (lent handed)) ⌝ }
 {
     if step.refusal == 0 {
         let told = step.told;
-        let over = handed_over(step.length, told);
+        let side = step.side;
+        let over = told_numbers(step.length, told, side_number(side));
         *handed = over;
     }
     step.refusal

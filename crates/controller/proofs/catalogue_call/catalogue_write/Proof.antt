@@ -5,8 +5,11 @@ use borrow.Author.Needs.{needs}
 use Rattle.controller.proofs.catalogue_call.catalogue_write.Statement.{statement}
 use Rattle.controller.proofs.catalogue_call.catalogue_write.Tie as tie
 
-laptop-from-requires : tie.Need-laptop-from-requires
-laptop-from-requires c κs = search needs
+port-from-requires : tie.Need-port-from-requires
+port-from-requires c κs = search needs
+
+side-from-requires : tie.Need-side-from-requires
+side-from-requires c κs = search needs
 
 write-catalogue-requires : tie.Need-write-catalogue-requires
 write-catalogue-requires c κs = search needs
@@ -15,19 +18,20 @@ same-length : tie.Need-same-length
 same-length c = search needs
 
 returns : tie.Need-returns
-returns c = wrote (held-as _ _ _ _ (c .before .before .before .before .before .before .laptop-from .ensures) (c .before .before .before .before .write-catalogue .ensures)) (c .if1 .taken) refl
+returns c = wrote (held-as (c .before .before .before .before .before .before .side-from .ensures) (c .before .before .before .before .before .before .before .port-from .ensures) _ _ _ _ (c .before .before .before .before .write-catalogue .ensures)) (c .if1 .taken) refl
 
 same-length-2 : tie.Need-same-length-2
 same-length-2 c = search needs
 
 returns-2 : tie.Need-returns-2
-returns-2 c = wrote-nothing (held-as _ _ _ _ (c .before .before .before .before .before .before .laptop-from .ensures) (c .before .before .before .before .write-catalogue .ensures)) (c .if1 .left) refl
+returns-2 c = wrote-nothing (held-as (c .before .before .before .before .before .before .side-from .ensures) (c .before .before .before .before .before .before .before .port-from .ensures) _ _ _ _ (c .before .before .before .before .write-catalogue .ensures)) (c .if1 .left) refl
 
 pub catalogue-write-spec : {M : Type 1} → statement M
 catalogue-write-spec =
     tie.close
     (tie.spec
-    laptop-from-requires
+    port-from-requires
+    side-from-requires
     write-catalogue-requires
     same-length
     returns

@@ -4,14 +4,11 @@ use borrow.Author.Needs.{needs}
 use Rattle.controller.proofs.laptop_calls.laptop_message.Statement.{statement}
 use Rattle.controller.proofs.laptop_calls.laptop_message.Tie as tie
 
-laptop-from-requires : tie.Need-laptop-from-requires
-laptop-from-requires c κs = search needs
+hear-requires : tie.Need-hear-requires
+hear-requires c κs = search needs
 
-message-requires : tie.Need-message-requires
-message-requires c κs = search needs
-
-put-laptop-requires : tie.Need-put-laptop-requires
-put-laptop-requires c κs = search needs
+put-port-requires : tie.Need-put-port-requires
+put-port-requires c κs = search needs
 
 hand-over-requires : tie.Need-hand-over-requires
 hand-over-requires c κs = search needs
@@ -23,16 +20,9 @@ same-length-2 : tie.Need-same-length-2
 same-length-2 c = search needs
 
 returns : tie.Need-returns
-returns c = hears-in (c .before .before .put-laptop .ensures) (c .hand-over .ensures) (c .before .before .before .before .before .before .before .before .before .before .before .before .before .before .before .before .before .before .before .laptop-from .ensures) (c .before .before .before .before .before .before .before .before .before .message .ensures)
+returns c = hears-in (c .before .before .put-port .ensures) (c .hand-over .ensures) (c .before .before .before .before .before .before .before .before .before .hear .ensures)
 
 pub laptop-message-spec : {M : Type 1} → statement M
 laptop-message-spec =
     tie.close
-    (tie.spec
-    laptop-from-requires
-    message-requires
-    put-laptop-requires
-    hand-over-requires
-    same-length
-    same-length-2
-    returns)
+    (tie.spec hear-requires put-port-requires hand-over-requires same-length same-length-2 returns)

@@ -4,14 +4,17 @@ use borrow.Author.Needs.{needs}
 use Rattle.controller.proofs.laptop_owner.laptop_drop.Statement.{statement}
 use Rattle.controller.proofs.laptop_owner.laptop_drop.Tie as tie
 
-laptop-from-requires : tie.Need-laptop-from-requires
-laptop-from-requires c κs = search needs
+port-from-requires : tie.Need-port-from-requires
+port-from-requires c κs = search needs
+
+side-from-requires : tie.Need-side-from-requires
+side-from-requires c κs = search needs
 
 drop-requires : tie.Need-drop-requires
 drop-requires c κs = search needs
 
-put-laptop-requires : tie.Need-put-laptop-requires
-put-laptop-requires c κs = search needs
+put-port-requires : tie.Need-put-port-requires
+put-port-requires c κs = search needs
 
 hand-over-requires : tie.Need-hand-over-requires
 hand-over-requires c κs = search needs
@@ -20,8 +23,16 @@ same-length : tie.Need-same-length
 same-length c = search needs
 
 returns : tie.Need-returns
-returns c = sends-in (c .before .before .put-laptop .ensures) (c .hand-over .ensures) (c .before .before .before .before .before .before .before .before .before .laptop-from .ensures) (c .before .before .before .before .before .before .before .drop .ensures)
+returns c = sends-in (c .before .before .put-port .ensures) (c .hand-over .ensures) (c .before .before .before .before .before .before .before .before .before .side-from .ensures) (c .before .before .before .before .before .before .before .before .before .before .port-from .ensures) (c .before .before .before .before .before .before .before .drop .ensures)
 
 pub laptop-drop-spec : {M : Type 1} → statement M
 laptop-drop-spec =
-    tie.close (tie.spec laptop-from-requires drop-requires put-laptop-requires hand-over-requires same-length returns)
+    tie.close
+    (tie.spec
+    port-from-requires
+    side-from-requires
+    drop-requires
+    put-port-requires
+    hand-over-requires
+    same-length
+    returns)

@@ -1,5 +1,5 @@
 -- `request_from` meets its promise.
-use Rattle.controller.proofs.LaptopNumbers.{request-is}
+use Rattle.controller.proofs.PortNumbers.{request-is}
 use borrow.Author.Needs.{needs}
 use Rattle.controller.proofs.numbers.request_from.Statement.{statement}
 use Rattle.controller.proofs.numbers.request_from.Tie as tie

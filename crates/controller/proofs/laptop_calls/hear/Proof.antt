@@ -1,0 +1,34 @@
+-- `hear` meets its promise.
+use Rattle.controller.proofs.LaptopHanding.{heard-as}
+use borrow.Author.Needs.{needs}
+use Rattle.controller.proofs.laptop_calls.hear.Statement.{statement}
+use Rattle.controller.proofs.laptop_calls.hear.Tie as tie
+
+port-from-requires : tie.Need-port-from-requires
+port-from-requires c κs = search needs
+
+side-from-requires : tie.Need-side-from-requires
+side-from-requires c κs = search needs
+
+message-requires : tie.Need-message-requires
+message-requires c κs = search needs
+
+same-length : tie.Need-same-length
+same-length c = search needs
+
+same-length-2 : tie.Need-same-length-2
+same-length-2 c = search needs
+
+returns : tie.Need-returns
+returns c = heard-as (c .before .before .before .before .before .before .before .before .before .before .before .before .before .before .side-from .ensures) (c .before .before .before .before .before .before .before .before .before .before .before .before .before .before .before .port-from .ensures) _ _ (c .before .before .before .before .message .ensures)
+
+pub hear-spec : {M : Type 1} → statement M
+hear-spec =
+    tie.close
+    (tie.spec
+    port-from-requires
+    side-from-requires
+    message-requires
+    same-length
+    same-length-2
+    returns)

@@ -18,11 +18,13 @@ module _ (side : Side) (w : Wait) (named : Side) (r : Request) (is : w ≡ Answe
   pub others-named : not t ≡ isOthers side w
   others-named = ap not same ∙ sym (ap (isOthers side) is)
 
-  pub seen-own : t ≡ true → Laptop·Answer r ≡ waitSeen side w
-  seen-own e = sym (ap (waitSeen side) is ∙ ap (λ b. cond b (Laptop·Answer r) Laptop·Nothing) (sym same ∙ e))
+-- what is awaited from a named side, to a side
+module _ (side named : Side) (r : Request) {t : Bool} (same : t ≡ sameSide named side) where
+  pub seen-own : t ≡ true → Laptop·Answer r ≡ waitSeen side (Answer named r)
+  seen-own e = sym (ap (λ b. cond b (Laptop·Answer r) Laptop·Nothing) (sym same ∙ e))
 
-  pub seen-nothing : t ≡ false → Laptop·Nothing ≡ waitSeen side w
-  seen-nothing e = sym (ap (waitSeen side) is ∙ ap (λ b. cond b (Laptop·Answer r) Laptop·Nothing) (sym same ∙ e))
+  pub seen-nothing : t ≡ false → Laptop·Nothing ≡ waitSeen side (Answer named r)
+  seen-nothing e = sym (ap (λ b. cond b (Laptop·Answer r) Laptop·Nothing) (sym same ∙ e))
 
 pub named-answer : (side : Side) (w : Laptop·Wait) (r : Request) → w ≡ Laptop·Answer r → Answer side r ≡ waitNamed side w
 named-answer side w r is = sym (ap (waitNamed side) is)

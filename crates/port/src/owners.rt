@@ -116,7 +116,7 @@ pub fn enter(
     if number != 0 {
         return refused_on(number, side, port);
     }
-    let step = modes::enter(
+    let entering = modes::enter(
         seen(side, port),
         svid,
         position,
@@ -127,7 +127,7 @@ pub fn enter(
         held_run,
         out,
     );
-    stepped_on(side, port, step)
+    stepped_on(side, port, entering)
 }
 
 pub fn exit(
@@ -150,7 +150,7 @@ pub fn exit(
     if number != 0 {
         return refused_on(number, side, port);
     }
-    let step = modes::exit(
+    let exiting = modes::exit(
         seen(side, port),
         svid,
         position,
@@ -161,5 +161,5 @@ pub fn exit(
         held_run,
         out,
     );
-    stepped_on(side, port, step)
+    stepped_on(side, port, exiting)
 }

@@ -2,12 +2,14 @@
 ghost use mathlib.Core.Path.{_≡_};
 ghost use Rattle.port.specs.Sides.{sameSide, isOthers, waitSeen, waitNamed, waitPut, ownOf, ownIn, putBack, steppedOn};
 ghost use Rattle.port.specs.Sides.{seen as Sides·seen};
+ghost use Rattle.port.specs.declared.Wait.the-variants.{Answer};
 use crate::Own;
 use crate::Port;
 use crate::Side;
 use crate::Step;
 use crate::Wait;
 use laptop::Laptop;
+use messages::Request;
 
 fn same_side(a: Side, b: Side) -> bool
     ensures { λ r. ⌜ r ≡ sameSide a b ⌝ }
@@ -34,17 +36,23 @@ fn is_others(side: Side, wait: Wait) -> bool
     !same_side(named, side)
 }
 
-// To a side, what the other awaits is nothing.
-fn wait_seen(side: Side, wait: Wait) -> laptop::Wait
-    ensures { λ r. ⌜ r ≡ waitSeen side wait ⌝ }
+// Of an answer that is awaited from a named side, to a side: what the other awaits is nothing.
+fn asked_of(side: Side, named: Side, request: Request) -> laptop::Wait
+    ensures { λ r. ⌜ r ≡ waitSeen side (Answer named request) ⌝ }
 {
-    let Wait::Answer(named, request) = wait else {
-        return laptop::Wait::Nothing;
-    };
     if same_side(named, side) {
         return laptop::Wait::Answer(request);
     }
     laptop::Wait::Nothing
+}
+
+fn wait_seen(side: Side, wait: Wait) -> laptop::Wait
+    ensures { λ r. ⌜ r ≡ waitSeen side wait ⌝ }
+{
+    match wait {
+        Wait::Nothing => laptop::Wait::Nothing,
+        Wait::Answer(named, request) => asked_of(side, named, request),
+    }
 }
 
 fn wait_named(side: Side, wait: laptop::Wait) -> Wait

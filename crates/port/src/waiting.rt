@@ -14,10 +14,10 @@ fn waiting_side(port: Port) -> Side
     ensures { λ r. ⌜ r ≡ waitingSide (port .wait) ⌝ }
 {
     let wait = port.wait;
-    let Wait::Answer(side, _) = wait else {
-        return Side::Partner;
-    };
-    side
+    match wait {
+        Wait::Nothing => Side::Partner,
+        Wait::Answer(side, _) => side,
+    }
 }
 
 pub fn response_timer(port: Port) -> Step

@@ -8,15 +8,18 @@
  * behind it the number of its elements (not of bytes), which has 64 bits on every chip, also on a 32-bit one. No pointer may be null, also where the
  * number is 0. Each is aligned for its type. What a call may change overlaps nothing else that is lent to it.
  *
+ * Sides. The laptop gathers two catalogues: of the port partner, and of the near cable plug. Each call that is for a side says which, and is lent that
+ * side's arrays and runs. See "The laptop" below.
+ *
  * Results. A call gives 0 if it is accepted, else a refusal number; then nothing is to be sent or told. Those that read a catalogue's bytes give an offset
  * beside the number: see CONTROLLER_REFUSAL and CONTROLLER_OFFSET.
- * - On acceptance it writes `length`, or all seven numbers of `handed`, and the new state. Bytes of `out` past the message stay.
+ * - On acceptance it writes `length`, or all eight numbers of `handed`, and the new state. Bytes of `out` past the message stay.
  * - On a refusal it changes no lent number: no state, no array, not `out`, `length` or `handed`. The laptop's state alone is written, if the refusal
- *   changes it: 8 and 14 drop the candidate and end the wait, and a page so refused stays counted; 6 drops the candidate for a late page.
+ *   changes it: 8 and 14 drop the side's candidate and end the wait, and a page so refused stays counted; 6 drops the side's candidate for a late page.
  *
- * Numbers. Any numbers are taken, so no call needs a check before it. In a state an unknown tag counts as 0, and of a number that is a byte the low eight
- * bits count. A mode count over 6 counts as 6, and of a set of entered modes the low six bits count. Numbers that a call does not change stay as they are,
- * ill-formed ones too.
+ * Numbers. Any numbers are taken, so no call needs a check before it. A side other than 1 counts as the partner. In a state an unknown tag counts as 0,
+ * and of a number that is a byte the low eight bits count. A mode count over 6 counts as 6, and of a set of entered modes the low six bits count. Numbers
+ * that a call does not change stay as they are, ill-formed ones too.
  */
 #ifndef CONTROLLER_H
 #define CONTROLLER_H
@@ -37,8 +40,8 @@ typedef uint64_t controller_count;
 #define CONTROLLER_MESSAGE_BYTES 28     /* most bytes of a message; a request that the laptop sends has 4 */
 #define CONTROLLER_CATALOGUE_BYTES 2402 /* most bytes of a catalogue */
 #define CONTROLLER_DOCK_STATE 7         /* numbers of the dock's state */
-#define CONTROLLER_LAPTOP_STATE 12      /* numbers of the laptop's state */
-#define CONTROLLER_HANDED 7             /* numbers that a laptop's call hands over */
+#define CONTROLLER_LAPTOP_STATE 20      /* numbers of the laptop's state */
+#define CONTROLLER_HANDED 8             /* numbers that a laptop's call hands over */
 #define CONTROLLER_SIZES 3              /* numbers that catalogue_read hands over */
 
 /* Refusal numbers. For a message the order is 1, 2, 3, 5, then 6, 8, 14; 11 for a short run comes before all others, 11 for a short buffer after them. */
@@ -49,14 +52,14 @@ enum controller_refusal {
     CONTROLLER_UNREAD_MAJOR = 3,      /* the major version is 2 or 3 */
     CONTROLLER_RESERVED_BIT = 4,      /* withdrawn: no call gives it, and bit 5 of the header is not looked at */
     CONTROLLER_WRONG_SHAPE = 5,       /* no message has such objects, SVID or position */
-    CONTROLLER_NOT_AWAITED = 6,       /* laptop: a REQ other than Attention, or an answer that is not awaited; dock: not a REQ, or Attention */
-    CONTROLLER_AWAITING = 7,          /* an owner's call while an answer is awaited */
+    CONTROLLER_NOT_AWAITED = 6,       /* laptop: a REQ other than Attention, or an answer not awaited from that side; dock: not a REQ, or Attention */
+    CONTROLLER_AWAITING = 7,          /* an owner's call while an answer is awaited, from either side */
     CONTROLLER_VOIDED = 8,            /* a bad page, or a NAK that voids the candidate */
     CONTROLLER_NOT_TAKEN_NOW = 9,     /* the present state does not take this event */
     CONTROLLER_BROKEN_LIMITS = 10,    /* policy's data breaks its limits */
-    CONTROLLER_SHORT = 11,            /* `out` is too short for the message or catalogue, or a run has under 432 words */
-    CONTROLLER_NOT_HELD = 12,         /* no held catalogue, or the SVID or mode is not in it */
-    CONTROLLER_BLOCKED = 13,          /* by a candidate, by an entered mode, or by one that is not entered */
+    CONTROLLER_SHORT = 11,            /* `out` is too short for the message or catalogue, or a lent run has under 432 words */
+    CONTROLLER_NOT_HELD = 12,         /* the side has no held catalogue, or the SVID or mode is not in it */
+    CONTROLLER_BLOCKED = 13,          /* by the side's candidate, by an entered mode, or by one that is not entered */
     CONTROLLER_NO_END = 14,           /* two hundred pages without an end */
     CONTROLLER_UNKNOWN_KIND = 15,     /* of a catalogue's bytes: a record's kind is unknown */
     CONTROLLER_CUT_RECORD = 16,       /* they stop within a record, or before the end record */
@@ -125,20 +128,33 @@ uint8_t dock_failed(uint16_t state[CONTROLLER_DOCK_STATE], const uint32_t identi
 
 /* The laptop -------------------------------------------------------------------------------------------------------------------------------------- */
 
+/*
+ * Two sides, the port partner and the near cable plug, each with a candidate, a held catalogue, a page count and entered modes of its own. One wait is
+ * shared by the two: while an answer is awaited from either side, an owner's call for either is refused 7. Else neither side hinders the other: entered
+ * modes block discovery on their own side only, and a message is taken or refused by what is awaited from its own side.
+ */
+enum controller_side { CONTROLLER_PARTNER = 0, CONTROLLER_CABLE = 1 };
+
 /* Places in the laptop's state. */
 enum controller_laptop_state {
-    CONTROLLER_LAPTOP_AWAITED = 0, /* 0 nothing, 1 an answer to the request of the next three, which are else 0 */
+    CONTROLLER_LAPTOP_AWAITED = 0, /* 0 nothing, 1 the partner's answer, 2 the cable's: to the request of the next three, which are else 0 */
     CONTROLLER_LAPTOP_SVID = 1,
     CONTROLLER_LAPTOP_COMMAND = 2,
     CONTROLLER_LAPTOP_POSITION = 3,
-    CONTROLLER_LAPTOP_CANDIDATE = 4, /* 0 none, 1 its list is open, 2 its list is done; without one the next three mean nothing */
-    CONTROLLER_LAPTOP_OBJECTS = 5,   /* its identity objects */
-    CONTROLLER_LAPTOP_COUNT = 6,     /* its SVIDs */
-    CONTROLLER_LAPTOP_FILLED = 7,    /* how many of them, from the first, have their modes */
-    CONTROLLER_LAPTOP_PAGES = 8,     /* the pages counted since Identity was last asked */
-    CONTROLLER_LAPTOP_HELD = 9,      /* 0 nothing, 1 a catalogue with as many as the next two say, which are else 0 */
-    CONTROLLER_LAPTOP_HELD_OBJECTS = 10,
-    CONTROLLER_LAPTOP_HELD_COUNT = 11
+    CONTROLLER_LAPTOP_PARTNER = 4, /* the first of the partner's eight numbers */
+    CONTROLLER_LAPTOP_CABLE = 12   /* the first of the cable's eight numbers */
+};
+
+/* Places in the eight numbers of a side. */
+enum controller_side_state {
+    CONTROLLER_SIDE_CANDIDATE = 0, /* 0 none, 1 its list is open, 2 its list is done; without one the next three mean nothing */
+    CONTROLLER_SIDE_OBJECTS = 1,   /* its identity objects */
+    CONTROLLER_SIDE_COUNT = 2,     /* its SVIDs */
+    CONTROLLER_SIDE_FILLED = 3,    /* how many of them, from the first, have their modes */
+    CONTROLLER_SIDE_PAGES = 4,     /* the pages counted since Identity was last asked */
+    CONTROLLER_SIDE_HELD = 5,      /* 0 nothing, 1 a catalogue with as many as the next two say, which are else 0 */
+    CONTROLLER_SIDE_HELD_OBJECTS = 6,
+    CONTROLLER_SIDE_HELD_COUNT = 7
 };
 
 /* Places in `handed`: what to send, and what to tell policy. What is not handed over is 0. */
@@ -149,7 +165,8 @@ enum controller_handed {
     CONTROLLER_HANDED_COMMAND = 3,  /* the same */
     CONTROLLER_HANDED_POSITION = 4, /* the same */
     CONTROLLER_HANDED_COUNT = 5,    /* objects behind the Attention's header: 0 or 1 */
-    CONTROLLER_HANDED_OBJECT = 6    /* that object */
+    CONTROLLER_HANDED_OBJECT = 6,   /* that object */
+    CONTROLLER_HANDED_SIDE = 7      /* 0 the partner, 1 the cable: the call's own; of a timer or the protocol error the side that waited */
 };
 
 enum controller_told {
@@ -162,55 +179,59 @@ enum controller_told {
 };
 
 /*
- * Beside its state a laptop is lent: the candidate's `svids`, `modes` (how many each SVID has), `identity` and `run` (the mode words); the same of the held
- * catalogue; and `entered`, for each held SVID a set with bit p - 1 for position p. The arrays may begin with any values: laptop_fresh writes those it needs.
+ * Beside the state a call for a side is lent what it needs of that side's: the candidate's `svids`, `modes` (how many each SVID has), `identity` and `run`
+ * (the mode words); the same of the held catalogue; and `entered`, for each held SVID a set with bit p - 1 for position p. Each side has its own nine
+ * arrays and runs: never lend the same to both. They may begin with any values: laptop_fresh writes those it needs.
  */
 
-/* A fresh laptop: nothing awaited, gathered, held or entered. Writes both arrays. */
-void laptop_fresh(uint16_t state[CONTROLLER_LAPTOP_STATE], uint8_t entered[CONTROLLER_SVIDS]);
+/* A fresh laptop: on both sides nothing awaited, gathered, held or entered. Writes all three arrays. */
+void laptop_fresh(uint16_t state[CONTROLLER_LAPTOP_STATE], uint8_t partner_entered[CONTROLLER_SVIDS], uint8_t cable_entered[CONTROLLER_SVIDS]);
 
-/* A message that arrived: the awaited answer, or Attention, which is told. With the last answer needed the candidate is published: the held arrays and run
-   then have it. Refused 11 for a run under 432 words, 1 to 6, 8, 14. */
-uint8_t laptop_message(uint16_t state[CONTROLLER_LAPTOP_STATE], const uint8_t *bytes, controller_count bytes_count, uint16_t svids[CONTROLLER_SVIDS],
-                       uint8_t modes[CONTROLLER_SVIDS], uint32_t identity[CONTROLLER_IDENTITY_OBJECTS], uint32_t *run, controller_count run_count,
-                       uint16_t held_svids[CONTROLLER_SVIDS], uint8_t held_modes[CONTROLLER_SVIDS], uint32_t held_identity[CONTROLLER_IDENTITY_OBJECTS],
-                       uint32_t *held_run, controller_count held_run_count, uint8_t entered[CONTROLLER_SVIDS], uint32_t handed[CONTROLLER_HANDED]);
+/* A message that arrived from the side: the answer that is awaited from it, or Attention, which is told. With the last answer needed the candidate is
+   published: the held arrays and run then have it. Refused 11 for a run under 432 words, 1 to 6, 8, 14. An answer from the side that is not awaited is
+   refused 6 and the wait goes on; if it is an SVIDs ACK and that side's list is open, that side's candidate is dropped, whatever the other awaits. */
+uint8_t laptop_message(uint16_t state[CONTROLLER_LAPTOP_STATE], uint8_t side, const uint8_t *bytes, controller_count bytes_count,
+                       uint16_t svids[CONTROLLER_SVIDS], uint8_t modes[CONTROLLER_SVIDS], uint32_t identity[CONTROLLER_IDENTITY_OBJECTS], uint32_t *run,
+                       controller_count run_count, uint16_t held_svids[CONTROLLER_SVIDS], uint8_t held_modes[CONTROLLER_SVIDS],
+                       uint32_t held_identity[CONTROLLER_IDENTITY_OBJECTS], uint32_t *held_run, controller_count held_run_count,
+                       uint8_t entered[CONTROLLER_SVIDS], uint32_t handed[CONTROLLER_HANDED]);
 
-/* How many modes of the SVID are entered, 0 if it is not held. Never refused. */
-uint32_t laptop_report(const uint16_t state[CONTROLLER_LAPTOP_STATE], uint16_t svid, const uint16_t held_svids[CONTROLLER_SVIDS],
+/* How many modes of the SVID are entered on the side, 0 if it is not held there. Never refused. */
+uint32_t laptop_report(const uint16_t state[CONTROLLER_LAPTOP_STATE], uint8_t side, uint16_t svid, const uint16_t held_svids[CONTROLLER_SVIDS],
                        const uint8_t entered[CONTROLLER_SVIDS]);
 
-/* The owner's calls. All are refused 11 for a run under 432 words, then 7. Each but drop puts a request of 4 bytes into `out`, to be sent, and is
-   refused 11 at last if `out` is shorter; drop sends nothing and leaves `out` as it is. */
+/* The owner's calls for a side. All are refused 11 for a run of that side under 432 words, then 7 while an answer is awaited from either side. Each but
+   drop puts a request of 4 bytes into `out`, to be sent to the side, and is refused 11 at last if `out` is shorter; drop sends nothing and leaves `out` as
+   it is. The refusals 12 and 13 look at the own side alone. */
 
 /* Asks for what is needed next: Identity, SVIDs, or the modes of the first SVID without them. Refused 13 while any mode is entered. */
-uint8_t laptop_next(uint16_t state[CONTROLLER_LAPTOP_STATE], const uint16_t svids[CONTROLLER_SVIDS], const uint8_t entered[CONTROLLER_SVIDS],
-                    const uint32_t *run, controller_count run_count, const uint32_t *held_run, controller_count held_run_count,
-                    uint8_t *out, controller_count out_count, uint32_t handed[CONTROLLER_HANDED]);
+uint8_t laptop_next(uint16_t state[CONTROLLER_LAPTOP_STATE], uint8_t side, const uint16_t svids[CONTROLLER_SVIDS],
+                    const uint8_t entered[CONTROLLER_SVIDS], const uint32_t *run, controller_count run_count, const uint32_t *held_run,
+                    controller_count held_run_count, uint8_t *out, controller_count out_count, uint32_t handed[CONTROLLER_HANDED]);
 
 /* Drops the candidate and asks for Identity. Refused 13 while any mode is entered. */
-uint8_t laptop_start_over(uint16_t state[CONTROLLER_LAPTOP_STATE], const uint8_t entered[CONTROLLER_SVIDS], const uint32_t *run, controller_count run_count,
-                          const uint32_t *held_run, controller_count held_run_count, uint8_t *out, controller_count out_count,
-                          uint32_t handed[CONTROLLER_HANDED]);
+uint8_t laptop_start_over(uint16_t state[CONTROLLER_LAPTOP_STATE], uint8_t side, const uint8_t entered[CONTROLLER_SVIDS], const uint32_t *run,
+                          controller_count run_count, const uint32_t *held_run, controller_count held_run_count, uint8_t *out,
+                          controller_count out_count, uint32_t handed[CONTROLLER_HANDED]);
 
 /* Drops the candidate, if there is one. */
-uint8_t laptop_drop(uint16_t state[CONTROLLER_LAPTOP_STATE], const uint32_t *run, controller_count run_count, const uint32_t *held_run,
+uint8_t laptop_drop(uint16_t state[CONTROLLER_LAPTOP_STATE], uint8_t side, const uint32_t *run, controller_count run_count, const uint32_t *held_run,
                     controller_count held_run_count, uint8_t *out, controller_count out_count, uint32_t handed[CONTROLLER_HANDED]);
 
 /* Asks to enter the mode at the position, 1 to 6, of the SVID. Refused 13 if there is a candidate, 12 if the mode is not held, 13 if it is entered. */
-uint8_t laptop_enter(uint16_t state[CONTROLLER_LAPTOP_STATE], uint16_t svid, uint8_t position, const uint16_t held_svids[CONTROLLER_SVIDS],
+uint8_t laptop_enter(uint16_t state[CONTROLLER_LAPTOP_STATE], uint8_t side, uint16_t svid, uint8_t position, const uint16_t held_svids[CONTROLLER_SVIDS],
                      const uint8_t held_modes[CONTROLLER_SVIDS], const uint8_t entered[CONTROLLER_SVIDS], const uint32_t *run, controller_count run_count,
                      const uint32_t *held_run, controller_count held_run_count, uint8_t *out, controller_count out_count,
                      uint32_t handed[CONTROLLER_HANDED]);
 
 /* Asks to exit it, or at position 7 all modes of the SVID. Refused 12 if it is not held, 13 if it is not entered, or none of the SVID is. */
-uint8_t laptop_exit(uint16_t state[CONTROLLER_LAPTOP_STATE], uint16_t svid, uint8_t position, const uint16_t held_svids[CONTROLLER_SVIDS],
+uint8_t laptop_exit(uint16_t state[CONTROLLER_LAPTOP_STATE], uint8_t side, uint16_t svid, uint8_t position, const uint16_t held_svids[CONTROLLER_SVIDS],
                     const uint8_t held_modes[CONTROLLER_SVIDS], const uint8_t entered[CONTROLLER_SVIDS], const uint32_t *run, controller_count run_count,
                     const uint32_t *held_run, controller_count held_run_count, uint8_t *out, controller_count out_count,
                     uint32_t handed[CONTROLLER_HANDED]);
 
-/* The timers, for the answers to commands 1 to 3, to Enter and to Exit, and the protocol error, for all: the wait is over. Of Enter and Exit policy is told.
-   Refused 9 for the wrong timer, or if nothing is awaited. */
+/* The timers, for the answers to commands 1 to 3, to Enter and to Exit, and the protocol error, for all: the wait is over. They concern the side that
+   waits, and are lent nothing of it. Of Enter and Exit policy is told. Refused 9 for the wrong timer, or if nothing is awaited. */
 uint8_t laptop_response_timer(uint16_t state[CONTROLLER_LAPTOP_STATE], uint32_t handed[CONTROLLER_HANDED]);
 uint8_t laptop_entry_timer(uint16_t state[CONTROLLER_LAPTOP_STATE], uint32_t handed[CONTROLLER_HANDED]);
 uint8_t laptop_exit_timer(uint16_t state[CONTROLLER_LAPTOP_STATE], uint32_t handed[CONTROLLER_HANDED]);
@@ -218,9 +239,9 @@ uint8_t laptop_protocol_error(uint16_t state[CONTROLLER_LAPTOP_STATE], uint32_t 
 
 /* The catalogue ----------------------------------------------------------------------------------------------------------------------------------- */
 
-/* Writes the held catalogue's bytes into `out`, and their number into `length`. At any time, also while an answer is awaited. Refused 11 for a run under
-   432 words, 12 if nothing is held (or fewer than 3 identity objects), 11 if `out` is too short. */
-uint8_t catalogue_write(const uint16_t state[CONTROLLER_LAPTOP_STATE], const uint16_t held_svids[CONTROLLER_SVIDS],
+/* Writes the bytes of the side's held catalogue into `out`, and their number into `length`. At any time, also while an answer is awaited. Refused 11 for
+   a run under 432 words, 12 if the side holds nothing (or fewer than 3 identity objects), 11 if `out` is too short. */
+uint8_t catalogue_write(const uint16_t state[CONTROLLER_LAPTOP_STATE], uint8_t side, const uint16_t held_svids[CONTROLLER_SVIDS],
                         const uint8_t held_modes[CONTROLLER_SVIDS], const uint32_t held_identity[CONTROLLER_IDENTITY_OBJECTS], const uint32_t *held_run,
                         controller_count held_run_count, uint8_t *out, controller_count out_count, uint16_t *length);
 

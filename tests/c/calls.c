@@ -7,8 +7,12 @@
 
 #include <string.h>
 
-/* How much of the buffers and runs a call is lent. */
-static controller_count room = CONTROLLER_MESSAGE_BYTES, run_words = CONTROLLER_RUN_WORDS, held_run_words = CONTROLLER_RUN_WORDS;
+/* How much of the output buffer a call is lent, and how much of a side's runs. */
+static controller_count room = CONTROLLER_MESSAGE_BYTES;
+
+static struct words_lent {
+    controller_count run, held_run;
+} partner_words = {CONTROLLER_RUN_WORDS, CONTROLLER_RUN_WORDS}, cable_words = {CONTROLLER_RUN_WORDS, CONTROLLER_RUN_WORDS};
 
 /* The dock's calls. */
 
@@ -43,48 +47,66 @@ static unsigned answer(void) {
 static unsigned sent(void) { return dock_sent(lent.dock.state, lent.dock.identity, lent.dock.svids, &lent.dock.length); }
 static unsigned failed(void) { return dock_failed(lent.dock.state, lent.dock.identity, lent.dock.svids, &lent.dock.length); }
 
-/* The laptop's calls. */
+/* The laptop's calls. The first word of a step for a side says which. */
+
+static uint8_t side(void) { return decimal(1); }
+static struct side *lent_side(void) { return side_of(&lent.laptop, side()); }
+static struct words_lent *lent_words(void) { return side() == CONTROLLER_CABLE ? &cable_words : &partner_words; }
 
 static unsigned fresh_laptop(void) {
     memset(&lent.laptop, UNWRITTEN, sizeof lent.laptop);
-    laptop_fresh(lent.laptop.state, lent.laptop.entered);
+    laptop_fresh(lent.laptop.state, lent.laptop.partner.entered, lent.laptop.cable.entered);
     return CONTROLLER_ACCEPTED;
 }
 
 static unsigned hear(void) {
-    struct laptop *l = &lent.laptop;
+    struct side *s = lent_side();
+    struct words_lent *w = lent_words();
     uint8_t bytes[MOST_BYTES];
-    controller_count count = take_bytes(1, bytes);
-    return laptop_message(l->state, bytes, count, l->svids, l->modes, l->identity, l->run, run_words, l->held_svids, l->held_modes, l->held_identity,
-                          l->held_run, held_run_words, l->entered, l->handed);
+    controller_count count = take_bytes(2, bytes);
+    return laptop_message(lent.laptop.state, side(), bytes, count, s->svids, s->modes, s->identity, s->run, w->run, s->held_svids, s->held_modes,
+                          s->held_identity, s->held_run, w->held_run, s->entered, lent.laptop.handed);
 }
 
-static unsigned report(void) { return laptop_report(lent.laptop.state, hex(1), lent.laptop.held_svids, lent.laptop.entered); }
+static unsigned report(void) {
+    struct side *s = lent_side();
+    return laptop_report(lent.laptop.state, side(), hex(2), s->held_svids, s->entered);
+}
 
 static unsigned next(void) {
     struct laptop *l = &lent.laptop;
-    return laptop_next(l->state, l->svids, l->entered, l->run, run_words, l->held_run, held_run_words, l->out, room, l->handed);
+    struct side *s = lent_side();
+    struct words_lent *w = lent_words();
+    return laptop_next(l->state, side(), s->svids, s->entered, s->run, w->run, s->held_run, w->held_run, l->out, room, l->handed);
 }
 
 static unsigned start_over(void) {
     struct laptop *l = &lent.laptop;
-    return laptop_start_over(l->state, l->entered, l->run, run_words, l->held_run, held_run_words, l->out, room, l->handed);
+    struct side *s = lent_side();
+    struct words_lent *w = lent_words();
+    return laptop_start_over(l->state, side(), s->entered, s->run, w->run, s->held_run, w->held_run, l->out, room, l->handed);
 }
 
 static unsigned drop(void) {
     struct laptop *l = &lent.laptop;
-    return laptop_drop(l->state, l->run, run_words, l->held_run, held_run_words, l->out, room, l->handed);
+    struct side *s = lent_side();
+    struct words_lent *w = lent_words();
+    return laptop_drop(l->state, side(), s->run, w->run, s->held_run, w->held_run, l->out, room, l->handed);
 }
 
 static unsigned enter(void) {
     struct laptop *l = &lent.laptop;
-    return laptop_enter(l->state, hex(1), decimal(2), l->held_svids, l->held_modes, l->entered, l->run, run_words, l->held_run, held_run_words, l->out,
+    struct side *s = lent_side();
+    struct words_lent *w = lent_words();
+    return laptop_enter(l->state, side(), hex(2), decimal(3), s->held_svids, s->held_modes, s->entered, s->run, w->run, s->held_run, w->held_run, l->out,
                         room, l->handed);
 }
 
 static unsigned leave(void) {
     struct laptop *l = &lent.laptop;
-    return laptop_exit(l->state, hex(1), decimal(2), l->held_svids, l->held_modes, l->entered, l->run, run_words, l->held_run, held_run_words, l->out,
+    struct side *s = lent_side();
+    struct words_lent *w = lent_words();
+    return laptop_exit(l->state, side(), hex(2), decimal(3), s->held_svids, s->held_modes, s->entered, s->run, w->run, s->held_run, w->held_run, l->out,
                        room, l->handed);
 }
 
@@ -95,8 +117,9 @@ static unsigned protocol_error(void) { return laptop_protocol_error(lent.laptop.
 
 static unsigned write_catalogue(void) {
     struct laptop *l = &lent.laptop;
-    return catalogue_write(l->state, l->held_svids, l->held_modes, l->held_identity, l->held_run, held_run_words, l->catalogue,
-                           part_of(1, CONTROLLER_CATALOGUE_BYTES), &l->catalogue_length);
+    struct side *s = lent_side();
+    return catalogue_write(l->state, side(), s->held_svids, s->held_modes, s->held_identity, s->held_run, lent_words()->held_run, l->catalogue,
+                           part_of(2, CONTROLLER_CATALOGUE_BYTES), &l->catalogue_length);
 }
 
 /* Reading a catalogue's bytes. */
@@ -121,8 +144,9 @@ static unsigned set_room(void) {
 }
 
 static unsigned set_runs(void) {
-    run_words = part_of(1, CONTROLLER_RUN_WORDS);
-    held_run_words = part_of(2, CONTROLLER_RUN_WORDS);
+    struct words_lent *w = lent_words();
+    w->run = part_of(2, CONTROLLER_RUN_WORDS);
+    w->held_run = part_of(3, CONTROLLER_RUN_WORDS);
     return CONTROLLER_ACCEPTED;
 }
 
@@ -136,18 +160,27 @@ static void stray_bytes(uint16_t *state, const int *bytes, size_t count) {
     for (size_t i = 0; i < count; i++) state[bytes[i]] |= 0x5A00;
 }
 
+static void stray_side(struct side *s, uint16_t *numbers) {
+    static const int tags[] = {CONTROLLER_SIDE_CANDIDATE, CONTROLLER_SIDE_HELD}, bytes[] = {1, 2, 3, 4, 6, 7};
+    stray_tags(numbers, tags, 2);
+    stray_bytes(numbers, bytes, 6);
+    for (int i = 0; i < CONTROLLER_SVIDS; i++) {
+        s->entered[i] |= 0xC0;
+        if (s->modes[i] == CONTROLLER_MODES) s->modes[i] = 250;
+        if (s->held_modes[i] == CONTROLLER_MODES) s->held_modes[i] = 250;
+    }
+}
+
 static unsigned stray(void) {
-    static const int dock_tags[] = {3}, dock_bytes[] = {0, 1, 2, 5, 6}, laptop_tags[] = {0, 4, 9}, laptop_bytes[] = {2, 3, 5, 6, 7, 8, 10, 11};
+    static const int dock_tags[] = {CONTROLLER_DOCK_STANDING}, dock_bytes[] = {0, 1, 2, 5, 6};
+    static const int laptop_tags[] = {CONTROLLER_LAPTOP_AWAITED}, laptop_bytes[] = {2, 3};
     struct laptop *l = &lent.laptop;
     stray_tags(lent.dock.state, dock_tags, 1);
     stray_bytes(lent.dock.state, dock_bytes, 5);
-    stray_tags(l->state, laptop_tags, 3);
-    stray_bytes(l->state, laptop_bytes, 8);
-    for (int i = 0; i < CONTROLLER_SVIDS; i++) {
-        l->entered[i] |= 0xC0;
-        if (l->modes[i] == CONTROLLER_MODES) l->modes[i] = 250;
-        if (l->held_modes[i] == CONTROLLER_MODES) l->held_modes[i] = 250;
-    }
+    stray_tags(l->state, laptop_tags, 1);
+    stray_bytes(l->state, laptop_bytes, 2);
+    stray_side(&l->partner, l->state + CONTROLLER_LAPTOP_PARTNER);
+    stray_side(&l->cable, l->state + CONTROLLER_LAPTOP_CABLE);
     return CONTROLLER_ACCEPTED;
 }
 

@@ -1,8 +1,13 @@
-/* The cases of document 01 over the library, printed as the programs `cases` print them. SVIDs are 1, 2, 3 and so on. */
+/*
+ * The cases of document 01 over the library, printed as the programs `cases` print them. SVIDs are 1, 2, 3 and so on.
+ *   cases          all of them, of the partner
+ *   cases cable    case L of the cable, while the partner's list is open
+ */
 #include "ends.h"
 
 #include <stdio.h>
 #include <stdlib.h>
+#include <string.h>
 
 #define PD_SID 0xFF00
 #define REQUEST(svid, command) ((uint32_t)(svid) << 16 | 0xA000u | (command))
@@ -24,6 +29,12 @@ static struct laptop laptop;
 static void must(uint8_t refusal, const char *call) {
     if (refusal == CONTROLLER_ACCEPTED) return;
     printf("%s is refused %u\n", call, refusal);
+    exit(1);
+}
+
+static void must_be(int is_so, const char *what) {
+    if (is_so) return;
+    printf("not so: %s\n", what);
     exit(1);
 }
 
@@ -66,24 +77,32 @@ static struct message dock_answers(uint32_t request, uint8_t policy) {
 
 static void confirm(void) { must(dock_sent(dock.state, dock.identity, dock.svids, &dock.length), "dock_sent"); }
 
-static uint8_t next(void) {
-    return laptop_next(laptop.state, laptop.svids, laptop.entered, laptop.run, CONTROLLER_RUN_WORDS, laptop.held_run, CONTROLLER_RUN_WORDS,
-                       laptop.out, sizeof laptop.out, laptop.handed);
+static void fresh(void) { laptop_fresh(laptop.state, laptop.partner.entered, laptop.cable.entered); }
+
+static uint8_t next(uint8_t side) {
+    struct side *s = side_of(&laptop, side);
+    return laptop_next(laptop.state, side, s->svids, s->entered, s->run, CONTROLLER_RUN_WORDS, s->held_run, CONTROLLER_RUN_WORDS, laptop.out,
+                       sizeof laptop.out, laptop.handed);
 }
 
-static uint8_t hear(const struct message *message) {
+static uint8_t hear(uint8_t side, const struct message *message) {
+    struct side *s = side_of(&laptop, side);
     uint8_t bytes[CONTROLLER_MESSAGE_BYTES];
     controller_count length = bytes_of(message, bytes);
-    return laptop_message(laptop.state, bytes, length, laptop.svids, laptop.modes, laptop.identity, laptop.run, CONTROLLER_RUN_WORDS,
-                          laptop.held_svids, laptop.held_modes, laptop.held_identity, laptop.held_run, CONTROLLER_RUN_WORDS, laptop.entered,
-                          laptop.handed);
+    return laptop_message(laptop.state, side, bytes, length, s->svids, s->modes, s->identity, s->run, CONTROLLER_RUN_WORDS, s->held_svids,
+                          s->held_modes, s->held_identity, s->held_run, CONTROLLER_RUN_WORDS, s->entered, laptop.handed);
 }
 
-/* A request of next, and the dock's answer to it. Gives the number by which the laptop refuses that, or 0. */
+/* The number at a place in the eight of a side. */
+static unsigned number(uint8_t side, enum controller_side_state place) {
+    return laptop.state[(side == CONTROLLER_CABLE ? CONTROLLER_LAPTOP_CABLE : CONTROLLER_LAPTOP_PARTNER) + place];
+}
+
+/* A request of next to the partner, and the dock's answer to it. Gives the number by which the laptop refuses that, or 0. */
 static uint8_t exchange(uint8_t policy, struct message *answer) {
-    must(next(), "laptop_next");
+    must(next(CONTROLLER_PARTNER), "laptop_next");
     *answer = dock_answers(object_at(laptop.out), policy);
-    return hear(answer);
+    return hear(CONTROLLER_PARTNER, answer);
 }
 
 static void exchange_and_confirm(void) {
@@ -92,23 +111,24 @@ static void exchange_and_confirm(void) {
     confirm();
 }
 
-/* Asks on until there is no candidate. */
+/* Asks the partner on until there is no candidate. */
 static void gather(void) {
-    while (laptop.state[CONTROLLER_LAPTOP_CANDIDATE] != 0) exchange_and_confirm();
+    while (number(CONTROLLER_PARTNER, CONTROLLER_SIDE_CANDIDATE) != 0) exchange_and_confirm();
 }
 
 /* The number of held SVIDs. */
-static void print_held(void) {
-    if (laptop.state[CONTROLLER_LAPTOP_HELD] == 0) printf("-");
-    else printf("%u", laptop.state[CONTROLLER_LAPTOP_HELD_COUNT]);
+static void print_held(uint8_t side) {
+    if (number(side, CONTROLLER_SIDE_HELD) == 0) printf("-");
+    else printf("%u", number(side, CONTROLLER_SIDE_HELD_COUNT));
 }
 
-static void print_catalogue(const char *name) {
-    must(catalogue_write(laptop.state, laptop.held_svids, laptop.held_modes, laptop.held_identity, laptop.held_run, CONTROLLER_RUN_WORDS,
-                         laptop.catalogue, sizeof laptop.catalogue, &laptop.catalogue_length),
+static void print_catalogue(uint8_t side, const char *name) {
+    struct side *s = side_of(&laptop, side);
+    must(catalogue_write(laptop.state, side, s->held_svids, s->held_modes, s->held_identity, s->held_run, CONTROLLER_RUN_WORDS, laptop.catalogue,
+                         sizeof laptop.catalogue, &laptop.catalogue_length),
          "catalogue_write");
     printf("case %s: held ", name);
-    print_held();
+    print_held(side);
     printf(", catalogue of %u bytes ", laptop.catalogue_length);
     for (int i = 0; i < laptop.catalogue_length; i++) printf("%02X", laptop.catalogue[i]);
     printf("\n");
@@ -143,26 +163,26 @@ static const struct message IDENTITY_ACK = {{ACK(PD_SID, CONTROLLER_IDENTITY), 1
 
 static void print_bad_page(void) {
     const struct message page = {{ACK(PD_SID, CONTROLLER_DISCOVER_SVIDS), 0x00010000, 0x00020000}, 3};
-    laptop_fresh(laptop.state, laptop.entered);
-    must(next(), "laptop_next");
-    must(hear(&IDENTITY_ACK), "laptop_message");
-    must(next(), "laptop_next");
+    fresh();
+    must(next(CONTROLLER_PARTNER), "laptop_next");
+    must(hear(CONTROLLER_PARTNER, &IDENTITY_ACK), "laptop_message");
+    must(next(CONTROLLER_PARTNER), "laptop_next");
     printf("case 10: ");
     print_message(&page);
-    printf(": refused %u\n", hear(&page));
+    printf(": refused %u\n", hear(CONTROLLER_PARTNER, &page));
 }
 
 static void print_unconfirmed(void) {
     struct message page;
     load_dock(13);
-    laptop_fresh(laptop.state, laptop.entered);
+    fresh();
     exchange_and_confirm();
     must(exchange(CONTROLLER_GIVE, &page), "laptop_message");
     must(dock_failed(dock.state, dock.identity, dock.svids, &dock.length), "dock_failed");
     gather();
     printf("case 11: n=%u, first page unconfirmed once: %u pages received, ", dock.state[CONTROLLER_DOCK_COUNT],
-           laptop.state[CONTROLLER_LAPTOP_PAGES]);
-    print_held();
+           number(CONTROLLER_PARTNER, CONTROLLER_SIDE_PAGES));
+    print_held(CONTROLLER_PARTNER);
     printf(" SVIDs held\n");
 }
 
@@ -170,10 +190,10 @@ static void print_unconfirmed(void) {
 static void print_voided(void) {
     struct message page, nak;
     load_dock(1);
-    laptop_fresh(laptop.state, laptop.entered);
+    fresh();
     exchange_and_confirm();
     gather();
-    print_catalogue("12");
+    print_catalogue(CONTROLLER_PARTNER, "12");
     load_dock(12);
     exchange_and_confirm();
     must(exchange(CONTROLLER_GIVE, &page), "laptop_message");
@@ -184,39 +204,63 @@ static void print_voided(void) {
     printf(", then ");
     print_message(&nak);
     printf(": refused %u\n", refusal);
-    print_catalogue("12");
+    print_catalogue(CONTROLLER_PARTNER, "12");
 }
 
-/* The watcher's line of an event. */
-static void print_event(int number, uint8_t refusal) {
-    printf("case L: %d %u ", number, refusal);
+/* The watcher's line of an event of a side. */
+static void print_event(uint8_t side, int event, uint8_t refusal) {
+    printf("case L: %d %u ", event, refusal);
     if (refusal == CONTROLLER_ACCEPTED && laptop.handed[CONTROLLER_HANDED_LENGTH] > 0) printf("%08X", (unsigned)object_at(laptop.out));
     else printf("-");
-    printf(" %u ", laptop.state[CONTROLLER_LAPTOP_PAGES]);
-    print_held();
+    printf(" %u ", number(side, CONTROLLER_SIDE_PAGES));
+    print_held(side);
     printf("\n");
+    must_be(laptop.handed[CONTROLLER_HANDED_SIDE] == side, "the side of the call is handed over");
 }
 
-static void print_case_l(void) {
+static void print_case_l(uint8_t side) {
     const struct message page = {{ACK(PD_SID, CONTROLLER_DISCOVER_SVIDS), 0xFF010000}, 2};
     const struct message modes = {{ACK(0xFF01, CONTROLLER_DISCOVER_MODES), MODE}, 2};
-    laptop_fresh(laptop.state, laptop.entered);
-    print_event(1, next());
-    print_event(2, hear(&IDENTITY_ACK));
-    print_event(3, next());
-    print_event(4, hear(&page));
-    print_event(5, next());
-    print_event(6, hear(&modes));
-    print_catalogue("L");
+    print_event(side, 1, next(side));
+    print_event(side, 2, hear(side, &IDENTITY_ACK));
+    print_event(side, 3, next(side));
+    print_event(side, 4, hear(side, &page));
+    print_event(side, 5, next(side));
+    print_event(side, 6, hear(side, &modes));
+    print_catalogue(side, "L");
 }
 
-int main(void) {
+static void print_cases(void) {
     const unsigned lists[8] = {0, 3, 4, 10, 11, 12, 13, 72};
     for (int i = 0; i < 8; i++) print_list(i + 1, lists[i]);
     print_reading(0xFF01A104);
     print_bad_page();
     print_unconfirmed();
     print_voided();
-    print_case_l();
+    fresh();
+    print_case_l(CONTROLLER_PARTNER);
+}
+
+/* The partner's gathering stays where it stood, and comes to its end. */
+static void print_case_l_of_cable(void) {
+    load_dock(13);
+    fresh();
+    exchange_and_confirm();
+    exchange_and_confirm();
+    struct laptop open = laptop;
+    must_be(number(CONTROLLER_PARTNER, CONTROLLER_SIDE_CANDIDATE) == 1, "the partner's list is open");
+    print_case_l(CONTROLLER_CABLE);
+    size_t partners_numbers = (CONTROLLER_LAPTOP_CABLE - CONTROLLER_LAPTOP_PARTNER) * sizeof *laptop.state;
+    must_be(memcmp(laptop.state + CONTROLLER_LAPTOP_PARTNER, open.state + CONTROLLER_LAPTOP_PARTNER, partners_numbers) == 0,
+            "the partner's numbers stay");
+    must_be(memcmp(&laptop.partner, &open.partner, sizeof open.partner) == 0, "the partner's arrays and runs stay");
+    gather();
+    must_be(number(CONTROLLER_PARTNER, CONTROLLER_SIDE_HELD_COUNT) == 13, "the partner's 13 SVIDs are held");
+    must_be(number(CONTROLLER_CABLE, CONTROLLER_SIDE_HELD_COUNT) == 1, "the cable's SVID is held");
+}
+
+int main(int argc, char **argv) {
+    if (argc == 2 && strcmp(argv[1], "cable") == 0) print_case_l_of_cable();
+    else print_cases();
     return 0;
 }

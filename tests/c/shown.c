@@ -24,19 +24,25 @@ static void print_dock(void) {
 }
 
 /* A number that stands for nothing is a dash. */
+static void print_side(const char *name, const uint16_t *numbers) {
+    unsigned candidate = tag(numbers[CONTROLLER_SIDE_CANDIDATE], 2);
+    printf(", %s %u", name, candidate);
+    if (candidate)
+        printf(" %u %u %u", byte(numbers[CONTROLLER_SIDE_OBJECTS]), byte(numbers[CONTROLLER_SIDE_COUNT]), byte(numbers[CONTROLLER_SIDE_FILLED]));
+    else printf(" - - -");
+    printf(" %u", byte(numbers[CONTROLLER_SIDE_PAGES]));
+    if (tag(numbers[CONTROLLER_SIDE_HELD], 1)) printf(" 1 %u %u", byte(numbers[CONTROLLER_SIDE_HELD_OBJECTS]), byte(numbers[CONTROLLER_SIDE_HELD_COUNT]));
+    else printf(" 0 - -");
+}
+
 static void print_laptop(void) {
     const uint16_t *state = lent.laptop.state;
-    unsigned candidate = tag(state[CONTROLLER_LAPTOP_CANDIDATE], 2);
-    printf(", state %u", tag(state[CONTROLLER_LAPTOP_AWAITED], 1));
-    if (tag(state[CONTROLLER_LAPTOP_AWAITED], 1)) print_request(state + CONTROLLER_LAPTOP_SVID);
+    unsigned awaited = tag(state[CONTROLLER_LAPTOP_AWAITED], 2);
+    printf(", awaited %u", awaited);
+    if (awaited) print_request(state + CONTROLLER_LAPTOP_SVID);
     else printf(" - - -");
-    printf(" %u", candidate);
-    if (candidate)
-        printf(" %u %u %u", byte(state[CONTROLLER_LAPTOP_OBJECTS]), byte(state[CONTROLLER_LAPTOP_COUNT]), byte(state[CONTROLLER_LAPTOP_FILLED]));
-    else printf(" - - -");
-    printf(" %u", byte(state[CONTROLLER_LAPTOP_PAGES]));
-    if (tag(state[CONTROLLER_LAPTOP_HELD], 1)) printf(" 1 %u %u", byte(state[CONTROLLER_LAPTOP_HELD_OBJECTS]), byte(state[CONTROLLER_LAPTOP_HELD_COUNT]));
-    else printf(" 0 - -");
+    print_side("partner", state + CONTROLLER_LAPTOP_PARTNER);
+    print_side("cable", state + CONTROLLER_LAPTOP_CABLE);
 }
 
 static const struct part {
@@ -50,15 +56,24 @@ static const struct part {
     PART("dock_out", dock, out),
     PART("dock_length", dock, length),
     PART("state", laptop, state),
-    PART("svids", laptop, svids),
-    PART("modes", laptop, modes),
-    PART("identity", laptop, identity),
-    PART("run", laptop, run),
-    PART("held_svids", laptop, held_svids),
-    PART("held_modes", laptop, held_modes),
-    PART("held_identity", laptop, held_identity),
-    PART("held_run", laptop, held_run),
-    PART("entered", laptop, entered),
+    PART("partner_svids", laptop, partner.svids),
+    PART("partner_modes", laptop, partner.modes),
+    PART("partner_identity", laptop, partner.identity),
+    PART("partner_run", laptop, partner.run),
+    PART("partner_held_svids", laptop, partner.held_svids),
+    PART("partner_held_modes", laptop, partner.held_modes),
+    PART("partner_held_identity", laptop, partner.held_identity),
+    PART("partner_held_run", laptop, partner.held_run),
+    PART("partner_entered", laptop, partner.entered),
+    PART("cable_svids", laptop, cable.svids),
+    PART("cable_modes", laptop, cable.modes),
+    PART("cable_identity", laptop, cable.identity),
+    PART("cable_run", laptop, cable.run),
+    PART("cable_held_svids", laptop, cable.held_svids),
+    PART("cable_held_modes", laptop, cable.held_modes),
+    PART("cable_held_identity", laptop, cable.held_identity),
+    PART("cable_held_run", laptop, cable.held_run),
+    PART("cable_entered", laptop, cable.entered),
     PART("handed", laptop, handed),
     PART("out", laptop, out),
     PART("catalogue", laptop, catalogue),
@@ -113,13 +128,16 @@ void show_dock(unsigned refusal) {
 }
 
 void show_laptop(unsigned refusal) {
-    const uint32_t *handed = lent.laptop.handed;
+    const struct laptop *now = &lent.laptop, *old = &before.laptop;
+    const uint32_t *handed = now->handed;
     if (refusal == CONTROLLER_ACCEPTED) {
-        printf("accepted, handed %u %u %04X %u %u %u %08X", (unsigned)handed[0], (unsigned)handed[1], (unsigned)handed[2], (unsigned)handed[3],
-               (unsigned)handed[4], (unsigned)handed[5], (unsigned)handed[6]);
-        print_sent(lent.laptop.out, handed[CONTROLLER_HANDED_LENGTH]);
-        print_written("run", lent.laptop.run, before.laptop.run);
-        print_written("held_run", lent.laptop.held_run, before.laptop.held_run);
+        printf("accepted, handed %u %u %04X %u %u %u %08X %u", (unsigned)handed[0], (unsigned)handed[1], (unsigned)handed[2], (unsigned)handed[3],
+               (unsigned)handed[4], (unsigned)handed[5], (unsigned)handed[6], (unsigned)handed[7]);
+        print_sent(now->out, handed[CONTROLLER_HANDED_LENGTH]);
+        print_written("partner_run", now->partner.run, old->partner.run);
+        print_written("partner_held_run", now->partner.held_run, old->partner.held_run);
+        print_written("cable_run", now->cable.run, old->cable.run);
+        print_written("cable_held_run", now->cable.held_run, old->cable.held_run);
     } else print_refusal(refusal);
     print_laptop();
 }

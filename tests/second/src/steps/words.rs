@@ -1,5 +1,6 @@
 //! The words of a step.
 
+use crate::side::Side;
 use std::str::SplitWhitespace;
 
 pub struct Words<'step>(SplitWhitespace<'step>);
@@ -19,6 +20,14 @@ impl<'step> Words<'step> {
 
     pub fn hex<Number: TryFrom<u32>>(&mut self) -> Result<Number, String> {
         number(self.name()?, 16)
+    }
+
+    /// 1 is the cable, any other number the partner.
+    pub fn side(&mut self) -> Result<Side, String> {
+        Ok(match self.decimal::<u8>()? {
+            1 => Side::Cable,
+            _ => Side::Partner,
+        })
     }
 
     /// The numbers up to a stroke or the end.

@@ -23,28 +23,134 @@ fn an_accepted_call_of_the_dock_shows_what_it_sends() {
 
 #[test]
 fn a_refusal_shows_what_it_changed() {
-    let identity = "laptop_message FF00A041 00000001 00000002 00000003";
-    let page = "laptop_message FF00A042 00010000";
-    let steps = format!("laptop_next\nlaptop_drop\n{identity}\n{page}\n");
+    let identity = "laptop_message 0 FF00A041 00000001 00000002 00000003";
+    let page = "laptop_message 0 FF00A042 00010000";
+    let steps = format!("laptop_next 0\nlaptop_drop 0\n{identity}\n{page}\n");
+    let cable = "cable 0 - - - 0 0 - -";
     let lines = [
-        "laptop_next: accepted, handed 4 0 0000 0 0 0 00000000, sends FF00A001, state 1 FF00 1 0 0 - - - 0 0 - -",
-        "laptop_drop: refused 7, changed nothing, state 1 FF00 1 0 0 - - - 0 0 - -",
-        &format!("{identity}: accepted, handed 0 0 0000 0 0 0 00000000, sends nothing, state 0 - - - 1 3 0 0 0 0 - -"),
-        &format!("{page}: refused 6, changed state, state 0 - - - 0 - - - 0 0 - -"),
+        format!("laptop_next 0: accepted, handed 4 0 0000 0 0 0 00000000 0, sends FF00A001, awaited 1 FF00 1 0, partner 0 - - - 0 0 - -, {cable}"),
+        format!("laptop_drop 0: refused 7, changed nothing, awaited 1 FF00 1 0, partner 0 - - - 0 0 - -, {cable}"),
+        format!("{identity}: accepted, handed 0 0 0000 0 0 0 00000000 0, sends nothing, awaited 0 - - -, partner 1 3 0 0 0 0 - -, {cable}"),
+        format!("{page}: refused 6, changed state, awaited 0 - - -, partner 0 - - - 0 0 - -, {cable}"),
     ];
     assert_eq!(printed(&steps), lines);
 }
 
 #[test]
-fn bytes_are_two_digits_each_and_an_attention_is_handed_over_whole() {
+fn a_call_of_the_cable_shows_both_sides() {
+    let identity = "laptop_message 1 FF00A041 00000001 00000002 00000003";
+    let page = "laptop_message 1 FF00A042 00010000";
+    let steps = format!("laptop_next 1\nlaptop_drop 0\n{identity}\nlaptop_next 0\n{page}\n");
+    let partner = "partner 0 - - - 0 0 - -";
     let lines = [
-        "dock_message 00A001: refused 1, changed nothing, state 0 0 0 ready",
-        "laptop_message FF01A206 00000007: accepted, handed 0 1 FF01 6 2 1 00000007, sends nothing, state 0 - - - 0 - - - 0 0 - -",
+        format!("laptop_next 1: accepted, handed 4 0 0000 0 0 0 00000000 1, sends FF00A001, awaited 2 FF00 1 0, {partner}, cable 0 - - - 0 0 - -"),
+        format!("laptop_drop 0: refused 7, changed nothing, awaited 2 FF00 1 0, {partner}, cable 0 - - - 0 0 - -"),
+        format!("{identity}: accepted, handed 0 0 0000 0 0 0 00000000 1, sends nothing, awaited 0 - - -, {partner}, cable 1 3 0 0 0 0 - -"),
+        format!("laptop_next 0: accepted, handed 4 0 0000 0 0 0 00000000 0, sends FF00A001, awaited 1 FF00 1 0, {partner}, cable 1 3 0 0 0 0 - -"),
+        format!("{page}: refused 6, changed state, awaited 1 FF00 1 0, {partner}, cable 0 - - - 0 0 - -"),
     ];
-    assert_eq!(
-        printed("dock_message 00A001\nlaptop_message FF01A206 00000007\n"),
-        lines
-    );
+    assert_eq!(printed(&steps), lines);
+}
+
+#[test]
+fn a_timer_hands_over_the_side_that_waited() {
+    let fresh = "partner 0 - - - 0 0 - -, cable 0 - - - 0 0 - -";
+    for side in [0, 1] {
+        let steps = format!("laptop_next {side}\nlaptop_response_timer\nlaptop_response_timer\n");
+        let lines = [
+            format!("laptop_next {side}: accepted, handed 4 0 0000 0 0 0 00000000 {side}, sends FF00A001, awaited {} FF00 1 0, {fresh}", side + 1),
+            format!("laptop_response_timer: accepted, handed 0 0 0000 0 0 0 00000000 {side}, sends nothing, awaited 0 - - -, {fresh}"),
+            format!("laptop_response_timer: refused 9, changed nothing, awaited 0 - - -, {fresh}"),
+        ];
+        assert_eq!(printed(&steps), lines);
+    }
+}
+
+/// The steps of a side by which it comes to hold the mode 00000405 of FF01.
+fn holding(side: u8) -> String {
+    [
+        "FF00A041 00000001 00000002 00000003",
+        "FF00A042 FF010000",
+        "FF01A043 00000405",
+    ]
+    .map(|words| format!("laptop_next {side}\nlaptop_message {side} {words}\n"))
+    .concat()
+}
+
+#[test]
+fn a_catalogue_is_published_and_written_of_its_own_side() {
+    let steps = holding(1) + "catalogue_write 0 2402\ncatalogue_write 1 2402\n";
+    let lines = [
+        "laptop_message 1 FF01A043 00000405: accepted, handed 0 0 0000 0 0 0 00000000 1, sends nothing, cable_run 0 is 00000405, cable_held_run 0 is 00000405, awaited 0 - - -, partner 0 - - - 0 0 - -, cable 0 - - - 1 1 3 1",
+        "catalogue_write 0 2402: refused 12, changed nothing",
+        "catalogue_write 1 2402: accepted, length 22, bytes 030100000002000000030000001001FF200504000000",
+    ];
+    assert_eq!(printed(&steps)[5..], lines);
+}
+
+#[test]
+fn an_enter_that_comes_to_nothing_is_told_of_its_side() {
+    let state = "awaited 0 - - -, partner 0 - - - 0 0 - -, cable 0 - - - 1 1 3 1";
+    for (end, told) in [
+        ("laptop_message 1 FF01A184", 2),
+        ("laptop_message 1 FF01A1C4", 3),
+        ("laptop_entry_timer", 4),
+        ("laptop_protocol_error", 5),
+    ] {
+        let steps = holding(1) + &format!("laptop_enter 1 FF01 1\n{end}\nlaptop_report 1 FF01\n");
+        let lines = [
+            format!(
+                "{end}: accepted, handed 0 {told} FF01 4 1 0 00000000 1, sends nothing, {state}"
+            ),
+            "laptop_report 1 FF01: 0 entered".to_string(),
+        ];
+        assert_eq!(printed(&steps)[7..], lines);
+    }
+}
+
+#[test]
+fn short_runs_refuse_the_calls_of_their_own_side() {
+    let fresh = "awaited 0 - - -, partner 0 - - - 0 0 - -, cable 0 - - - 0 0 - -";
+    let steps = "runs 1 432 431\nlaptop_fresh\nlaptop_drop 1\nlaptop_drop 0\nruns 1 432 432\nlaptop_drop 1\n";
+    let lines = [
+        "runs 1 432 431: set".to_string(),
+        format!("laptop_fresh: made, {fresh}"),
+        format!("laptop_drop 1: refused 11, changed nothing, {fresh}"),
+        format!(
+            "laptop_drop 0: accepted, handed 0 0 0000 0 0 0 00000000 0, sends nothing, {fresh}"
+        ),
+        "runs 1 432 432: set".to_string(),
+        format!(
+            "laptop_drop 1: accepted, handed 0 0 0000 0 0 0 00000000 1, sends nothing, {fresh}"
+        ),
+    ];
+    assert_eq!(printed(steps), lines);
+}
+
+#[test]
+fn a_side_other_than_the_cable_is_the_partner() {
+    let led_to = |side| -> Vec<String> {
+        let lines = printed(&holding(side)).into_iter();
+        let split = lines.filter_map(|line| Some(line.split_once(": ")?.1.to_string()));
+        split.collect()
+    };
+    for side in [2, 129, 255] {
+        assert_eq!(led_to(side), led_to(0));
+    }
+    assert_ne!(led_to(1), led_to(0));
+}
+
+#[test]
+fn bytes_are_two_digits_each_and_an_attention_is_handed_over_whole() {
+    let fresh = "awaited 0 - - -, partner 0 - - - 0 0 - -, cable 0 - - - 0 0 - -";
+    let attention = "FF01A206 00000007: accepted, handed 0 1 FF01 6 2 1 00000007";
+    let lines = [
+        "dock_message 00A001: refused 1, changed nothing, state 0 0 0 ready".to_string(),
+        format!("laptop_message 0 {attention} 0, sends nothing, {fresh}"),
+        format!("laptop_message 1 {attention} 1, sends nothing, {fresh}"),
+    ];
+    let steps = "dock_message 00A001\nlaptop_message 0 FF01A206 00000007\nlaptop_message 1 FF01A206 00000007\n";
+    assert_eq!(printed(steps), lines);
 }
 
 #[test]
@@ -94,7 +200,7 @@ fn bytes_that_are_refused_show_the_offset() {
 
 #[test]
 fn again_makes_the_last_two_steps_so_many_times_more() {
-    let steps = "dock_message FF00A002\ndock_sent\nlaptop_next\nlaptop_response_timer\nagain 3\nlaptop_next\n";
+    let steps = "dock_message FF00A002\ndock_sent\nlaptop_next 1\nlaptop_response_timer\nagain 3\nlaptop_next 1\n";
     let lines = printed(steps);
     assert_eq!(lines[4], "again 3");
     assert_eq!(lines[5], lines[2]);
@@ -105,7 +211,11 @@ fn an_unknown_step_is_an_error() {
     for steps in [
         "laptop_sleep\n",
         "dock_answer 0\n",
-        "laptop_enter FF01\n",
+        "laptop_enter 0 FF01\n",
+        "laptop_next\n",
+        "laptop_next 256\n",
+        "laptop_message FF00A0C1\n",
+        "runs 432 432\n",
         "catalogue_read\n",
         "catalogue_stretch\n",
         "catalogue_find 432\n",

@@ -142,7 +142,10 @@ impl LaptopEnd {
         let (runs, old) = (&self.runs, &before.runs);
         let parts = [
             ("state", self.laptop != before.laptop),
-            ("partner_run", runs.partner.candidate != old.partner.candidate),
+            (
+                "partner_run",
+                runs.partner.candidate != old.partner.candidate,
+            ),
             ("partner_held_run", runs.partner.held != old.partner.held),
             ("cable_run", runs.cable.candidate != old.cable.candidate),
             ("cable_held_run", runs.cable.held != old.cable.held),

@@ -1,20 +1,22 @@
 //! The laptop's message call as one would write it in Rust without a heap: plain arrays behind
-//! `&mut self`, loops that leave early.
+//! `&mut self`, loops that leave early. The laptop has two sides, and one wait.
 
 use second::catalogue::{MOST_MODES, RUN_WORDS};
+use second::laptop::Awaited;
 use second::messages::{
-    read, Message, Request, ACK, ATTENTION, BUSY, ENTER, IDENTITY, MODES, MOST_AFTER_HEADER, NAK,
-    REQ, SVIDS,
+    read, Message, ACK, ATTENTION, BUSY, ENTER, IDENTITY, MODES, MOST_AFTER_HEADER, NAK, REQ, SVIDS,
 };
 use second::pages::{MOST_SVIDS, PAGE_SVIDS};
 use second::refusals::{ACCEPTED, NOT_AWAITED, NO_END, VOIDED};
+use second::side::{Side, Sides};
 
 const MOST_PAGES: u8 = 200;
 const ALL_POSITIONS: u8 = 0b11_1111;
 const ALL: u8 = 7;
 
-/// What is told to policy, and of which request: the numbers that the proved library hands over.
-pub type Handed = [u32; 7];
+/// What is told to policy, of which request and of which side: the numbers that the proved library
+/// hands over.
+pub type Handed = [u32; 8];
 const TOLD_ATTENTION: u32 = 1;
 const TOLD_NAK: u32 = 2;
 const TOLD_BUSY: u32 = 3;
@@ -33,9 +35,9 @@ pub struct Size {
     pub count: u8,
 }
 
+/// How far the gathering of a side has come, and what it holds.
 #[derive(Clone, Copy)]
 pub struct State {
-    pub awaited: Option<Request>,
     pub stage: Stage,
     pub gathered: Size,
     /// How many SVIDs have their modes.
@@ -51,15 +53,34 @@ pub struct Catalogue {
     pub run: [u32; RUN_WORDS],
 }
 
-pub struct Laptop {
+/// What the laptop has of a side.
+pub struct LaptopSide {
     pub state: State,
     pub candidate: Catalogue,
-    pub held: Catalogue,
-    pub entered: [u8; MOST_SVIDS],
+    held: Catalogue,
+    entered: [u8; MOST_SVIDS],
+}
+
+pub struct Laptop {
+    pub awaited: Option<Awaited>,
+    pub sides: Sides<LaptopSide>,
+}
+
+impl State {
+    pub const FRESH: State = State {
+        stage: Stage::NoCandidate,
+        gathered: Size {
+            objects: 0,
+            count: 0,
+        },
+        stored: 0,
+        pages: 0,
+        held: None,
+    };
 }
 
 impl Catalogue {
-    pub fn empty() -> Self {
+    fn empty() -> Self {
         Catalogue {
             svids: [0; MOST_SVIDS],
             modes: [0; MOST_SVIDS],
@@ -70,27 +91,26 @@ impl Catalogue {
 }
 
 impl Laptop {
-    pub fn awaiting(state: State) -> Self {
+    pub fn fresh() -> Self {
         Laptop {
-            state,
-            candidate: Catalogue::empty(),
-            held: Catalogue::empty(),
-            entered: [0; MOST_SVIDS],
+            awaited: None,
+            sides: Sides::each(|_| LaptopSide::fresh()),
         }
     }
 
     /// A refusal leaves `handed` as it is.
     #[inline(never)]
-    pub fn message(&mut self, bytes: &[u8], handed: &mut Handed) -> u8 {
-        let mut over = [0; 7];
-        let refusal = self.hear(bytes, &mut over);
+    pub fn message(&mut self, side: Side, bytes: &[u8], handed: &mut Handed) -> u8 {
+        let mut over = [0; 8];
+        over[7] = side as u32;
+        let refusal = self.hear(side, bytes, &mut over);
         if refusal == ACCEPTED {
             *handed = over;
         }
         refusal
     }
 
-    fn hear(&mut self, bytes: &[u8], handed: &mut Handed) -> u8 {
+    fn hear(&mut self, side: Side, bytes: &[u8], handed: &mut Handed) -> u8 {
         let message = match read(bytes) {
             Ok(message) => message,
             Err(refusal) => return refusal,
@@ -98,21 +118,39 @@ impl Laptop {
         if message.kind == REQ {
             return hear_request(&message, handed);
         }
-        if self.state.awaited != Some(message.request()) {
-            return self.hear_unawaited(&message);
+        let hearing = &mut self.sides[side];
+        match self.awaited {
+            Some(awaited) if awaited.side == side => {
+                if awaited.request != message.request() {
+                    return NOT_AWAITED;
+                }
+            }
+            _ => return hearing.hear_unawaited(&message),
         }
-        self.state.awaited = None;
+        self.awaited = None;
         match message.command {
-            IDENTITY => self.hear_identity(&message),
-            SVIDS => self.hear_svids(&message),
-            MODES => self.hear_modes(&message),
-            _ => self.hear_mode(&message, handed),
+            IDENTITY => hearing.hear_identity(&message),
+            SVIDS => hearing.hear_svids(&message),
+            MODES => hearing.hear_modes(&message),
+            _ => hearing.hear_mode(&message, handed),
+        }
+    }
+}
+
+impl LaptopSide {
+    fn fresh() -> Self {
+        LaptopSide {
+            state: State::FRESH,
+            candidate: Catalogue::empty(),
+            held: Catalogue::empty(),
+            entered: [0; MOST_SVIDS],
         }
     }
 
+    /// A message while nothing is awaited from this side.
     fn hear_unawaited(&mut self, message: &Message) -> u8 {
         let is_page = message.command == SVIDS && message.kind == ACK;
-        if is_page && self.state.awaited.is_none() && self.state.stage == Stage::ListOpen {
+        if is_page && self.state.stage == Stage::ListOpen {
             self.state.stage = Stage::NoCandidate;
         }
         NOT_AWAITED

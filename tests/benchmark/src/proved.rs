@@ -8,12 +8,16 @@ use second::catalogue::RUN_WORDS;
 use second::messages::MOST_AFTER_HEADER;
 use second::pages::MOST_SVIDS;
 
-/// What is awaited with its SVID, command and position, the candidate with its identity objects,
-/// SVIDs and SVIDs with modes, the pages, what is held with its identity objects and SVIDs.
-pub type State = [u16; 12];
-pub type Handed = [u32; 7];
+/// What is awaited with its SVID, command and position; then of each side the candidate with its
+/// identity objects, SVIDs and SVIDs with modes, the pages, what is held with its identity objects
+/// and SVIDs.
+pub type State = [u16; 20];
+pub type Handed = [u32; 8];
 
-/// What is lent beside the state.
+/// The side whose messages are measured.
+const PARTNER: u8 = 0;
+
+/// What is lent of a side beside the state.
 pub struct Memory {
     pub svids: [u16; MOST_SVIDS],
     modes: [u8; MOST_SVIDS],
@@ -46,6 +50,7 @@ impl Memory {
 pub struct Library {
     pub name: &'static str,
     pub read: reading::Reader,
+    /// Of the partner.
     pub message: fn(&mut Memory, &mut State, &[u8], &mut Handed) -> u8,
     pub read_back: reading_back::Reader,
     pub watcher: &'static str,
@@ -61,6 +66,7 @@ macro_rules! library {
             #[link_name = concat!($prefix, "laptop_message")]
             fn laptop_message(
                 state: *mut u16,
+                side: u8,
                 bytes: *const u8,
                 length: usize,
                 svids: *mut u16,
@@ -107,6 +113,7 @@ macro_rules! library {
             unsafe {
                 laptop_message(
                     state.as_mut_ptr(),
+                    PARTNER,
                     bytes.as_ptr(),
                     bytes.len(),
                     memory.svids.as_mut_ptr(),
@@ -158,9 +165,9 @@ pub const LIBRARIES: &[Library] = &[
     library!("beside", "beside_"),
 ];
 
-/// The libraries' sides and Rust's, in words.
-pub const ALL_SIDES: &str = if LIBRARIES.len() == 1 {
-    "both sides"
+/// The libraries and Rust's version, in words.
+pub const ALL_VERSIONS: &str = if LIBRARIES.len() == 1 {
+    "both versions"
 } else {
-    "all three sides"
+    "all three versions"
 };

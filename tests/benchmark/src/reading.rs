@@ -1,6 +1,6 @@
-//! Reading messages: the sides' answers to recorded inputs, then their speed.
+//! Reading messages: the versions' answers to recorded inputs, then their speed.
 
-use crate::proved::{ALL_SIDES, LIBRARIES};
+use crate::proved::{ALL_VERSIONS, LIBRARIES};
 use crate::rounds;
 use second::messages::{
     flip_reserved, has_reserved, read, write, ACK, ATTENTION, BUSY, ENTER, EXIT, IDENTITY,
@@ -133,7 +133,7 @@ fn damage(message: &mut Vec<u8>, random: &mut Random) {
 /// How often 0 to 5 were answered.
 type Counts = [usize; 6];
 
-/// Counts the answers, and panics at the first input that the sides answer differently.
+/// Counts the answers, and panics at the first input that the versions answer differently.
 fn compare_answers(inputs: &Inputs) -> Counts {
     let mut counts = Counts::default();
     for message in inputs.messages() {
@@ -154,7 +154,7 @@ fn compare_answers(inputs: &Inputs) -> Counts {
     counts
 }
 
-/// Not inlined: all sides run through the same loop.
+/// Not inlined: all versions run through the same loop.
 #[inline(never)]
 fn read_all(reader: Reader, inputs: &Inputs) {
     let reader = black_box(reader);
@@ -168,7 +168,7 @@ fn read_all(reader: Reader, inputs: &Inputs) {
 pub fn measure() {
     let inputs = Inputs::record();
     let counts = compare_answers(&inputs);
-    println!("reading {INPUTS} messages, {ALL_SIDES} answer alike");
+    println!("reading {INPUTS} messages, {ALL_VERSIONS} answer alike");
     assert_eq!(counts[usize::from(WITHDRAWN)], 0);
     println!("accepted: {}", counts[usize::from(ACCEPTED)]);
     let messages = inputs.messages();

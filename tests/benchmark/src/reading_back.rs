@@ -1,8 +1,8 @@
-//! Reading a catalogue's bytes back: the sides' answers to recorded files, then their speed by
+//! Reading a catalogue's bytes back: the versions' answers to recorded files, then their speed by
 //! sort of file.
 
 use crate::plain_reader::{self, Lent};
-use crate::proved::{ALL_SIDES, LIBRARIES};
+use crate::proved::{ALL_VERSIONS, LIBRARIES};
 use crate::rounds;
 use second::catalogue::{Catalogue, MOST_CATALOGUE_BYTES, MOST_MODES, RUN_WORDS};
 use second::messages::MOST_AFTER_HEADER;
@@ -77,7 +77,7 @@ fn svid_record(place: usize) -> usize {
 /// How often each number was answered.
 type Counts = [usize; BYTES_AFTER_END as usize + 1];
 
-/// Counts the answers, and panics at the first file that the sides answer differently.
+/// Counts the answers, and panics at the first file that the versions answer differently.
 fn compare_answers(files: &[Vec<u8>]) -> Counts {
     let mut counts = Counts::default();
     for bytes in files {
@@ -98,7 +98,7 @@ fn compare_answers(files: &[Vec<u8>]) -> Counts {
     counts
 }
 
-/// Not inlined: all sides run through the same loop.
+/// Not inlined: all versions run through the same loop.
 #[inline(never)]
 fn read_all(reader: Reader, files: &[Vec<u8>]) {
     let reader = black_box(reader);
@@ -113,7 +113,7 @@ fn measure_sort(name: &str, files: &[Vec<u8>]) {
     let counts = compare_answers(files);
     let bytes: usize = files.iter().map(Vec::len).sum();
     println!(
-        "\n{name}: reading back {} files of {} bytes on average, {ALL_SIDES} answer alike",
+        "\n{name}: reading back {} files of {} bytes on average, {ALL_VERSIONS} answer alike",
         files.len(),
         bytes / files.len()
     );

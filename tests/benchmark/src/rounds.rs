@@ -1,11 +1,11 @@
-//! Times the sides in turn and prints best, median and ratios.
+//! Times the versions in turn and prints best, median and ratios.
 
 use crate::proved::{Library, LIBRARIES};
 use std::time::Instant;
 
 const ROUNDS: usize = 61;
 
-/// What a side took for one thing, in nanoseconds.
+/// What a version took for one thing, in nanoseconds.
 struct Taken {
     name: &'static str,
     best: f64,
@@ -39,8 +39,8 @@ impl Taken {
     }
 }
 
-/// A round of each side does `items` things; all sides are timed in the same run, in turn. Two
-/// libraries change places from round to round: neither always comes behind Rust's side.
+/// A round of each version does `items` things; all are timed in the same run, in turn. Two
+/// libraries change places from round to round: neither always comes behind Rust's version.
 pub fn compare(items: usize, mut proved: impl FnMut(&Library), mut rust: impl FnMut()) {
     let mut proved_times = vec![Vec::new(); LIBRARIES.len()];
     let mut rust_times = Vec::new();

@@ -1,13 +1,15 @@
-//! Taking a page: the laptop's message call on recorded pages, the sides' answers, then their
-//! speed by kind of page.
+//! Taking a page: the laptop's message call on recorded pages of the partner, the versions' answers,
+//! then their speed by kind of page.
 
 use crate::plain;
-use crate::proved::{self, Library, ALL_SIDES, LIBRARIES};
+use crate::proved::{self, Library, ALL_VERSIONS, LIBRARIES};
 use crate::rounds;
+use second::laptop::Awaited;
 use second::messages::{write, Request, ACK, OBJECT_BYTES, PD_SID, SVIDS};
 use second::pages::{page, MOST_SVIDS, PAGE_SVIDS};
 use second::random::Random;
 use second::refusals::ACCEPTED;
+use second::side::Side;
 use std::hint::black_box;
 
 const SEED: u64 = 0x5EED_0000_0000_0003;
@@ -19,12 +21,15 @@ const FULL_PAGES: usize = MOST_SVIDS / PAGE_SVIDS;
 const IDENTITY_OBJECTS: u8 = 3;
 const FIRST_HALF: u32 = 16;
 /// What is handed over before the call.
-const UNTOUCHED: proved::Handed = [9; 7];
+const UNTOUCHED: proved::Handed = [9; 8];
 
-const AWAITED: Request = Request {
-    svid: PD_SID,
-    command: SVIDS,
-    position: 0,
+const AWAITED: Awaited = Awaited {
+    side: Side::Partner,
+    request: Request {
+        svid: PD_SID,
+        command: SVIDS,
+        position: 0,
+    },
 };
 
 #[derive(Clone, Copy, Debug)]
@@ -76,84 +81,87 @@ fn acknowledged(objects: &[u32]) -> Vec<u8> {
 }
 
 fn proved_state(gathered: u8) -> proved::State {
-    let mut state = [0; 12];
+    let mut state = [0; 20];
     state[..4].copy_from_slice(&[1, PD_SID, SVIDS.into(), 0]);
     state[4..7].copy_from_slice(&[1, IDENTITY_OBJECTS.into(), gathered.into()]);
     state
 }
 
-fn plain_state(gathered: u8) -> plain::State {
-    plain::State {
-        awaited: Some(AWAITED),
+/// The same, of the plain laptop.
+fn set_plain_state(laptop: &mut plain::Laptop, gathered: u8) {
+    laptop.awaited = Some(AWAITED);
+    laptop.sides.partner.state = plain::State {
         stage: plain::Stage::ListOpen,
         gathered: plain::Size {
             objects: IDENTITY_OBJECTS,
             count: gathered,
         },
-        stored: 0,
-        pages: 0,
-        held: None,
-    }
+        ..plain::State::FRESH
+    };
+    laptop.sides.cable.state = plain::State::FRESH;
 }
 
-/// The plain state as the proved library's numbers.
-fn numbers(state: &plain::State) -> proved::State {
-    let awaited = state.awaited.map_or([0; 4], |request| {
-        [
-            1,
-            request.svid,
-            request.command.into(),
-            request.position.into(),
-        ]
+/// The plain laptop's state as the proved library's numbers.
+fn numbers(laptop: &plain::Laptop) -> proved::State {
+    let awaited = laptop.awaited.map_or([0; 4], |Awaited { side, request }| {
+        let side = 1 + side as u16;
+        let [command, position] = [request.command, request.position].map(u16::from);
+        [side, request.svid, command, position]
     });
+    let mut numbers = [0; 20];
+    numbers[..4].copy_from_slice(&awaited);
+    numbers[4..12].copy_from_slice(&numbers_of_side(&laptop.sides.partner.state));
+    numbers[12..].copy_from_slice(&numbers_of_side(&laptop.sides.cable.state));
+    numbers
+}
+
+fn numbers_of_side(state: &plain::State) -> [u16; 8] {
     let held = state
         .held
         .map_or([0; 3], |size| [1, size.objects.into(), size.count.into()]);
-    let between = [
+    [
         state.stage as u16,
         state.gathered.objects.into(),
         state.gathered.count.into(),
         state.stored.into(),
         state.pages.into(),
-    ];
-    let mut numbers = [0; 12];
-    numbers[..4].copy_from_slice(&awaited);
-    numbers[4..9].copy_from_slice(&between);
-    numbers[9..].copy_from_slice(&held);
-    numbers
+        held[0],
+        held[1],
+        held[2],
+    ]
 }
 
-/// All libraries are lent the same memory: a page leaves it as it was.
-struct Sides {
+/// A laptop for each list. All libraries are lent the same memory: a page leaves it as it was.
+struct Laptops {
     proved: Vec<proved::Memory>,
     plain: Vec<plain::Laptop>,
 }
 
-impl Sides {
+impl Laptops {
     fn with(lists: &[Vec<u16>]) -> Self {
-        let mut sides = Sides {
+        let mut laptops = Laptops {
             proved: Vec::new(),
             plain: Vec::new(),
         };
         for list in lists {
             let mut memory = proved::Memory::empty();
             memory.svids.copy_from_slice(list);
-            sides.proved.push(memory);
-            let mut laptop = plain::Laptop::awaiting(plain_state(0));
-            laptop.candidate.svids.copy_from_slice(list);
-            sides.plain.push(laptop);
+            laptops.proved.push(memory);
+            let mut laptop = plain::Laptop::fresh();
+            laptop.sides.partner.candidate.svids.copy_from_slice(list);
+            laptops.plain.push(laptop);
         }
-        sides
+        laptops
     }
 
-    /// Gives the answer, and panics where the sides differ.
+    /// Gives the answer, and panics where the versions differ.
     fn compare(&mut self, input: &Input) -> u8 {
         let mut handed = UNTOUCHED;
         let laptop = &mut self.plain[input.list];
-        laptop.state = plain_state(input.gathered);
-        let number = laptop.message(&input.bytes, &mut handed);
-        let state = numbers(&laptop.state);
-        let plain = (number, state, laptop.candidate.svids, handed);
+        set_plain_state(laptop, input.gathered);
+        let number = laptop.message(Side::Partner, &input.bytes, &mut handed);
+        let svids = laptop.sides.partner.candidate.svids;
+        let plain = (number, numbers(laptop), svids, handed);
         let memory = &mut self.proved[input.list];
         for library in LIBRARIES {
             let (mut state, mut handed) = (proved_state(input.gathered), UNTOUCHED);
@@ -175,7 +183,7 @@ impl Sides {
 #[inline(never)]
 fn proved_round(library: &Library, laptops: &mut [proved::Memory], inputs: &[Input]) {
     let message = black_box(library.message);
-    let mut handed = [0; 7];
+    let mut handed = [0; 8];
     for input in inputs {
         let mut state = proved_state(input.gathered);
         let memory = &mut laptops[input.list];
@@ -185,12 +193,12 @@ fn proved_round(library: &Library, laptops: &mut [proved::Memory], inputs: &[Inp
 }
 
 fn plain_round(laptops: &mut [plain::Laptop], inputs: &[Input]) {
-    let mut handed = [0; 7];
+    let mut handed = [0; 8];
     for input in inputs {
         let laptop = &mut laptops[input.list];
-        laptop.state = plain_state(input.gathered);
-        black_box(laptop.message(&input.bytes, &mut handed));
-        black_box((&laptop.state, &handed));
+        set_plain_state(laptop, input.gathered);
+        black_box(laptop.message(Side::Partner, &input.bytes, &mut handed));
+        black_box((&*laptop, &handed));
     }
 }
 
@@ -199,7 +207,7 @@ pub fn measure() {
     let lists: Vec<Vec<u16>> = (0..LISTS)
         .map(|_| random.different_svids(MOST_SVIDS))
         .collect();
-    let mut sides = Sides::with(&lists);
+    let mut laptops = Laptops::with(&lists);
     let mut all = Vec::new();
     for kind in [Kind::Full, Kind::Repeat, Kind::Ending, Kind::Bad] {
         let inputs: Vec<Input> = (0..PAGES)
@@ -207,18 +215,20 @@ pub fn measure() {
             .collect();
         let refused = inputs
             .iter()
-            .filter(|input| sides.compare(input) != ACCEPTED)
+            .filter(|input| laptops.compare(input) != ACCEPTED)
             .count();
-        println!("\n{kind:?}: taking {PAGES} pages, {ALL_SIDES} answer alike, {refused} refused");
-        time(&mut sides, &inputs);
+        println!(
+            "\n{kind:?}: taking {PAGES} pages, {ALL_VERSIONS} answer alike, {refused} refused"
+        );
+        time(&mut laptops, &inputs);
         all.extend(inputs);
     }
     println!("\nall {} pages", all.len());
-    time(&mut sides, &all);
+    time(&mut laptops, &all);
 }
 
-fn time(sides: &mut Sides, inputs: &[Input]) {
-    let Sides { proved, plain } = sides;
+fn time(laptops: &mut Laptops, inputs: &[Input]) {
+    let Laptops { proved, plain } = laptops;
     rounds::compare(
         inputs.len(),
         |library| proved_round(library, proved, inputs),

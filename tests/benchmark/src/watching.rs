@@ -1,8 +1,10 @@
-//! The watcher: the sides' programs on one stream of a million events, their lines compared, then
-//! their time.
+//! The watcher: the versions' programs on one stream of a million events of both sides, their lines
+//! compared, then their time.
 
-use crate::proved::{Library, ALL_SIDES, LIBRARIES};
+use crate::proved::{Library, ALL_VERSIONS, LIBRARIES};
 use crate::rounds;
+use second::side::Side;
+use second::watcher::Event;
 use std::env;
 use std::fs;
 use std::path::{Path, PathBuf};
@@ -15,7 +17,8 @@ const SEEDS: u64 = 60;
 pub fn measure() {
     let folder = env::temp_dir();
     let stream = folder.join("graftpigeon-watcher-stream");
-    fs::write(&stream, generated()).expect("the stream can be written");
+    let bytes = generated();
+    fs::write(&stream, &bytes).expect("the stream can be written");
     let rust = second("watcher");
     let lines = run(&rust, &stream);
     for library in LIBRARIES {
@@ -24,7 +27,8 @@ pub fn measure() {
     }
     assert!(lines.ends_with(format!("end {EVENTS} events\n").as_bytes()));
     println!(
-        "\nwatcher: {EVENTS} events, {ALL_SIDES} print the same {} bytes",
+        "\nwatcher: {EVENTS} events, {} of them of the cable, {ALL_VERSIONS} print the same {} bytes",
+        of_cable(&bytes),
         lines.len()
     );
     rounds::compare(
@@ -39,6 +43,14 @@ fn generated() -> Vec<u8> {
     (1..=SEEDS)
         .flat_map(|seed| output(Command::new(second("generate_watcher")).arg(seed.to_string())))
         .collect()
+}
+
+/// How many of the events are messages from the cable, or calls for it.
+fn of_cable(mut stream: &[u8]) -> usize {
+    (0..EVENTS)
+        .map_while(|_| Event::take(&mut stream).ok())
+        .filter(|event| event.side() == Some(Side::Cable))
+        .count()
 }
 
 fn run(program: &Path, stream: &Path) -> Vec<u8> {

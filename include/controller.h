@@ -18,8 +18,8 @@
  *   changes it: 8 and 14 drop the side's candidate and end the wait, and a page so refused stays counted; 6 drops the side's candidate for a late page.
  *
  * Numbers. Any numbers are taken, so no call needs a check before it. A side other than 1 counts as the partner. In a state an unknown tag counts as 0,
- * and of a number that is a byte the low eight bits count. A mode count over 6 counts as 6, and of a set of entered modes the low six bits count. Numbers
- * that a call does not change stay as they are, ill-formed ones too.
+ * and of a number that is a byte the low eight bits count. A mode count over 6 counts as 6, and of a set of entered modes the low six bits count.
+ * Ill-formed numbers of a state stay until a call writes it: the laptop's one that changes what they stand for, the dock's one that is accepted.
  */
 #ifndef CONTROLLER_H
 #define CONTROLLER_H

@@ -1,38 +1,37 @@
--- What a kind fixes: whether it is known, the length of its body, its event.
+-- What a partner's kind fixes: the length of its body, its event.
 use mathlib.Core.Path.{_≡_, refl}
 use mathlib.Core.Bool.{Bool, true, false, cond}
 use mathlib.Core.List.{List}
-use Prim.Native.Nat.{ℕ, _*_, _<_, _≤_}
+use Prim.Native.Nat.{ℕ, _*_, _≤_}
 use native.Mathlib.Omega.{arith}
 use lib.Dec.{leb}
-use borrow.Author.Tests.{le-leb, lt-leb, ne-eqb, leb-true}
+use borrow.Author.Tests.{ne-eqb, leb-true}
 use Rattle.laws.proofs.Lines.{and-left, and-right}
-use Rattle.events.specs.Events.{isMessage, namesMode, bodyLength, callOf}
+use Rattle.port.specs.declared.Side.{Side}
+use Rattle.events.specs.Events.{isMessage, namesMode, partnersLength, callOf, eventOn}
 use Rattle.events.specs.declared.Call.the-variants.{ProtocolError}
+use Rattle.events.specs.declared.Event.the-variants.{Message}
+use Rattle.events.specs.declared.Event.the-variants.{Call as Event·Call}
 
 pub message-bounds : (kind : ℕ) → isMessage kind ≡ true → (1 ≤ kind) × (kind ≤ 7)
 unfolding isMessage
 message-bounds kind e =
     (leb-true 1 kind (and-left (leb 1 kind) (leb kind 7) e), leb-true kind 7 (and-right (leb 1 kind) (leb kind 7) e))
 
-pub length-message : (kind : ℕ) → isMessage kind ≡ true → bodyLength kind ≡ kind * 4
-unfolding bodyLength
+pub length-message : (kind : ℕ) → isMessage kind ≡ true → partnersLength kind ≡ kind * 4
+unfolding partnersLength
 length-message kind e = rw e
 
-pub length-below : (kind : ℕ) → isMessage kind ≡ false → kind < 71 → bodyLength kind ≡ 0
-unfolding bodyLength
-length-below kind e h = simp (e, lt-leb 71 kind h)
+pub length-mode : (kind : ℕ) → isMessage kind ≡ false → namesMode kind ≡ true → partnersLength kind ≡ 3
+unfolding partnersLength
+length-mode kind e e′ = simp (e, e′)
 
-pub length-above : (kind : ℕ) → isMessage kind ≡ false → 72 < kind → bodyLength kind ≡ 0
-unfolding bodyLength
-length-above kind e h = simp (e, le-leb 71 kind (omega arith), lt-leb kind 72 h)
+pub length-none : (kind : ℕ) → isMessage kind ≡ false → namesMode kind ≡ false → partnersLength kind ≡ 0
+unfolding partnersLength
+length-none kind e e′ = simp (e, e′)
 
-pub length-mode : (kind : ℕ) → isMessage kind ≡ false → 71 ≤ kind → kind ≤ 72 → bodyLength kind ≡ 3
-unfolding bodyLength
-length-mode kind e low high = simp (e, le-leb 71 kind low, le-leb kind 72 high)
-
-pub length-most : (kind : ℕ) → bodyLength kind ≤ 28
-unfolding bodyLength
+pub length-most : (kind : ℕ) → partnersLength kind ≤ 28
+unfolding partnersLength
 length-most kind = go (isMessage kind) refl
   where
     other : (t : Bool) → cond t 3 0 ≤ 28
@@ -59,3 +58,11 @@ of-error kind body n0 n1 n2 n3 n4 n5 n7 n8 =
       ne-eqb kind 71 n7,
       ne-eqb kind 72 n8,
     )
+
+pub on-message : (side : Side) (kind : ℕ) (body : List ℕ) → isMessage kind ≡ true → eventOn side kind body ≡ Message side kind
+unfolding eventOn
+on-message side kind body e = rw e
+
+pub on-call : (side : Side) (kind : ℕ) (body : List ℕ) → isMessage kind ≡ false → eventOn side kind body ≡ Event·Call side (callOf kind body)
+unfolding eventOn
+on-call side kind body e = rw e

@@ -1,9 +1,11 @@
--- Laptop events as bytes: one byte of kind, then a body whose length the kind fixes (01, "Catalogue bytes and the watcher program").
-use Prim.Native.Nat.{ℕ, _+_, _*_, _^_}
+-- Laptop events as bytes: one byte of kind, then a body whose length the kind fixes (01, "Catalogue bytes and the watcher program"; 02, R-4).
+use Prim.Native.Nat.{ℕ, _+_, _-_, _*_, _^_}
 use mathlib.Core.Bool.{Bool, cond, _&&_, _||_}
 use mathlib.Core.List.{List, [], _∷_}
 use lib.Dec.{leb, eqb}
 use lib.ListN.{length, getD}
+use Rattle.port.specs.declared.Side.{Side}
+use Rattle.port.specs.declared.Side.the-variants.{Partner, Cable}
 use Rattle.events.specs.declared.Call.{Call}
 use Rattle.events.specs.declared.Call.the-variants.{Next, StartOver, Drop, ResponseTimer, EntryTimer, ExitTimer, ProtocolError, Enter, Exit}
 use Rattle.events.specs.declared.Event.{Event}
@@ -13,21 +15,38 @@ use Rattle.events.specs.declared.Found.{Found}
 use Rattle.events.specs.declared.Found.the-variants.{Whole, Unknown, Cut, Nothing}
 use Rattle.events.specs.declared.Mode.{Mode}
 
--- 0x01..0x07 a message of that many objects
+-- the partner's kinds: 0x01..0x07 a message of that many objects
 unfoldable pub isMessage : ℕ → Bool
 isMessage kind = leb 0x01 kind && leb kind 0x07
 
 -- 0x47 enter and 0x48 exit
-abbrev pub namesMode : ℕ → Bool
+unfoldable pub namesMode : ℕ → Bool
 namesMode kind = leb 0x47 kind && leb kind 0x48
 
--- and 0x40 to 0x46 without a body
+-- and 0x40 to 0x42 without a body: those that say a side
+unfoldable pub saysSide : ℕ → Bool
+saysSide kind = isMessage kind || ((leb 0x40 kind && leb kind 0x42) || namesMode kind)
+
+-- and 0x43 to 0x46, the timers and the protocol error, which say none
+unfoldable pub isPartners : ℕ → Bool
+isPartners kind = saysSide kind || (leb 0x43 kind && leb kind 0x46)
+
+-- a cable's kind is a partner's kind that says a side, with 0x80 added
+unfoldable pub sideOf : ℕ → Side
+sideOf kind = cond (leb 0x80 kind) Cable Partner
+
+unfoldable pub withoutSide : ℕ → ℕ
+withoutSide kind = cond (leb 0x80 kind) (kind - 0x80) kind
+
 unfoldable pub isKnown : ℕ → Bool
-isKnown kind = isMessage kind || (leb 0x40 kind && leb kind 0x48)
+isKnown kind = cond (leb 0x80 kind) (saysSide (withoutSide kind)) (isPartners kind)
 
 -- 4 bytes an object; 3 bytes
+unfoldable pub partnersLength : ℕ → ℕ
+partnersLength kind = cond (isMessage kind) (kind * 4) (cond (namesMode kind) 3 0)
+
 unfoldable pub bodyLength : ℕ → ℕ
-bodyLength kind = cond (isMessage kind) (kind * 4) (cond (namesMode kind) 3 0)
+bodyLength kind = partnersLength (withoutSide kind)
 
 -- SVID (low byte first) then position
 unfoldable pub modeIn : List ℕ → Mode
@@ -45,9 +64,13 @@ callOf kind body =
     (cond (eqb kind 0x47) (Enter (modeIn body))
     (cond (eqb kind 0x48) (Exit (modeIn body)) ProtocolError)))))))
 
+-- the event of a partner's kind, on a side
+unfoldable pub eventOn : Side → ℕ → List ℕ → Event
+eventOn side kind body = cond (isMessage kind) (Message side kind) (Event·Call side (callOf kind body))
+
 -- the event of a known kind
 unfoldable pub eventOf : ℕ → List ℕ → Event
-eventOf kind body = cond (isMessage kind) (Message kind) (Event·Call (callOf kind body))
+eventOf kind body = eventOn (sideOf kind) (withoutSide kind) body
 
 -- what stands first among bytes: a whole event and the number of its bytes, an unknown kind, a cut body, or nothing
 unfoldable pub eventIn : List ℕ → Found

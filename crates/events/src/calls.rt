@@ -1,8 +1,8 @@
-// The call of a kind, with the mode that its body names.
+// The call of a partner's kind, with the mode that its body names.
 ghost use mathlib.Core.Path.{_≡_};
 ghost use Prim.Native.Nat.{_+_, _*_, _^_, _≤_};
 ghost use lib.ListN.{length, drop};
-ghost use Rattle.events.specs.Events.{bodyLength, modeIn, callOf};
+ghost use Rattle.events.specs.Events.{partnersLength, modeIn, callOf};
 use crate::Call;
 use crate::Mode;
 use crate::kinds::DROP;
@@ -30,9 +30,9 @@ fn mode_in(bytes: &[u8]) -> Mode
     }
 }
 
-// The kind is known, and no message's: what is left is the protocol error.
+// Of a partner's kind, which is known and no message's: what is left is the protocol error.
 pub(crate) fn call_of(kind: u8, bytes: &[u8]) -> Call
-    requires { ⌜ 1 + bodyLength kind ≤ length (now bytes) ⌝ }
+    requires { ⌜ 1 + partnersLength kind ≤ length (now bytes) ⌝ }
     ensures { λ r. ⌜ r ≡ callOf kind (drop 1 (now (bytes .entry))) ⌝ }
 {
     match kind {

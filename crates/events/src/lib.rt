@@ -1,4 +1,5 @@
-// Laptop events as bytes: document 01, "Catalogue bytes and the watcher program". One byte of kind, then a body whose length the kind fixes.
+// Laptop events as bytes: document 01, "Catalogue bytes and the watcher program", and document 02, R-4. One byte of kind, then a body whose length the
+// kind fixes.
 mod calls;
 mod kinds;
 
@@ -11,6 +12,9 @@ pub use kinds::LONGEST_EVENT;
 pub use kinds::body_length;
 use kinds::is_known;
 use kinds::is_message;
+use kinds::side_of;
+use kinds::without_side;
+use port::Side;
 
 // What *enter* and *exit* name.
 pub struct Mode {
@@ -31,10 +35,10 @@ pub enum Call {
     Exit(Mode),
 }
 
-// A message has its number of objects.
+// With its side, which is the partner's for a timer and the protocol error. A message has its number of objects.
 pub enum Event {
-    Message(u8),
-    Call(Call),
+    Message(Side, u8),
+    Call(Side, Call),
 }
 
 // What stands first among bytes: a whole event and the number of its bytes, the kind counted; a kind that there is not; a body that is cut.
@@ -49,10 +53,12 @@ fn event_of(kind: u8, bytes: &[u8]) -> Event
     requires { ⌜ 1 + bodyLength kind ≤ length (now bytes) ⌝ }
     ensures { λ r. ⌜ r ≡ eventOf kind (drop 1 (now (bytes .entry))) ⌝ }
 {
-    if is_message(kind) {
-        return Event::Message(kind);
+    let side = side_of(kind);
+    let partners = without_side(kind);
+    if is_message(partners) {
+        return Event::Message(side, partners);
     }
-    Event::Call(call_of(kind, bytes))
+    Event::Call(side, call_of(partners, bytes))
 }
 
 pub fn read_event(bytes: &[u8]) -> Found

@@ -3,19 +3,19 @@ use mathlib.Core.Path.{ap, sym, _∙_}
 use Prim.Native.Nat.{ℕ}
 use native.Mathlib.Omega.{arith}
 use lib.ListN.{drop}
-use Rattle.events.specs.Events.{isMessage, bodyLength, callOf}
+use Rattle.events.specs.Events.{isMessage, namesMode, partnersLength, callOf}
 use Rattle.events.specs.declared.Call.the-variants.{Enter, Exit}
 use Rattle.events.proofs.Bodies.{of-error}
 use Rattle.events.proofs.calls.call_of.Statement.{statement}
 use Rattle.events.proofs.calls.call_of.Tie as tie
 
 mode-in-requires : tie.Need-mode-in-requires
-unfolding isMessage bodyLength
-mode-in-requires c κs = omega (arith, ap bodyLength (c .match .keys7))
+unfolding isMessage namesMode partnersLength
+mode-in-requires c κs = omega (arith, ap partnersLength (c .match .keys7))
 
 mode-in-requires-2 : tie.Need-mode-in-requires-2
-unfolding isMessage bodyLength
-mode-in-requires-2 c κs = omega (arith, ap bodyLength (c .match .keys8))
+unfolding isMessage namesMode partnersLength
+mode-in-requires-2 c κs = omega (arith, ap partnersLength (c .match .keys8))
 
 returns : tie.Need-returns
 unfolding callOf

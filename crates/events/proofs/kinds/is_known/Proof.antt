@@ -1,25 +1,27 @@
 -- `is_known` meets its promise.
-use mathlib.Core.Path.{_∙_, sym}
+use mathlib.Core.Path.{ap, sym, _∙_}
 use borrow.Author.Needs.{needs}
-use borrow.Author.Tests.{lt-leb, le-leb}
-use Rattle.events.specs.Events.{isKnown}
+use Rattle.events.specs.Events.{saysSide}
+use Rattle.events.proofs.Sides.{known-partner, known-cable}
 use Rattle.events.proofs.kinds.is_known.Statement.{statement}
 use Rattle.events.proofs.kinds.is_known.Tie as tie
 
-is-message-requires : tie.Need-is-message-requires
-is-message-requires c κs = search needs
+is-partners-requires : tie.Need-is-partners-requires
+is-partners-requires c κs = search needs
 
 returns : tie.Need-returns
-unfolding isKnown
-returns c = simp (sym (c .before .is-message .ensures) ∙ c .if1 .taken)
+returns c = c .is-partners .ensures ∙ sym (known-partner _ (c .before .if1 .taken))
+
+without-side-requires : tie.Need-without-side-requires
+without-side-requires c κs = search needs
+
+says-side-requires : tie.Need-says-side-requires
+says-side-requires c κs = search needs
 
 returns-2 : tie.Need-returns-2
-unfolding isKnown
-returns-2 c = simp (sym (c .before .before .is-message .ensures) ∙ c .before .if1 .left, lt-leb 64 _ (c .if2 .taken))
-
-returns-3 : tie.Need-returns-3
-unfolding isKnown
-returns-3 c = simp (sym (c .before .before .is-message .ensures) ∙ c .before .if1 .left, le-leb 64 _ (c .if2 .left))
+returns-2 c = c .says-side .ensures ∙ ap saysSide (c .before .without-side .ensures) ∙ sym (known-cable _ (c .before .before .if1 .left))
 
 pub is-known-spec : {M : Type 1} → statement M
-is-known-spec = tie.close (tie.spec is-message-requires returns returns-2 returns-3)
+is-known-spec =
+    tie.close
+    (tie.spec is-partners-requires returns without-side-requires says-side-requires returns-2)

@@ -1,18 +1,19 @@
-// The laptop's calls: reading one from standard input, and making it.
+// The laptop end's calls: reading one from standard input, and making it.
 use events::Call;
 use events::Event;
 use events::Found;
 use events::LONGEST_EVENT;
 use events::body_length;
 use events::read_event;
-use laptop::Laptop;
-use laptop::Step;
+use port::Port;
+use port::Side;
+use port::Step;
 use streams::finish::Turn;
 use streams::input::fill;
 
-// A call that was read whole, or the turn without one.
+// A call that was read whole, with its side, or the turn without one.
 pub enum Taken {
-    Whole(Call),
+    Whole(Side, Call),
     Without(Turn),
 }
 
@@ -21,10 +22,10 @@ fn call_in(bytes: &[u8]) -> Taken {
     let Found::Whole(event, _) = found else {
         return Taken::Without(Turn::Unknown);
     };
-    let Event::Call(call) = event else {
+    let Event::Call(side, call) = event else {
         return Taken::Without(Turn::Unknown);
     };
-    Taken::Whole(call)
+    Taken::Whole(side, call)
 }
 
 // The call of a kind, with its body from standard input. The kind stands first, and the body is read behind it.
@@ -38,8 +39,10 @@ pub fn take_call(kind: u8) -> Taken {
     call_in(event)
 }
 
+// The call is lent what its side has. A timer or the protocol error concerns the side that waits.
 pub fn make_call(
-    laptop: Laptop,
+    port: Port,
+    side: Side,
     call: Call,
     svids: &[u16; 72],
     run: &[u32],
@@ -50,15 +53,16 @@ pub fn make_call(
     out: &mut [u8],
 ) -> Step {
     match call {
-        Call::Next => owner::next(laptop, svids, entered, run, held_run, out),
-        Call::StartOver => owner::start_over(laptop, entered, run, held_run, out),
-        Call::Drop => owner::drop(laptop, run, held_run, out),
-        Call::ResponseTimer => timers::response_timer(laptop),
-        Call::EntryTimer => timers::entry_timer(laptop),
-        Call::ExitTimer => timers::exit_timer(laptop),
-        Call::ProtocolError => timers::protocol_error(laptop),
-        Call::Enter(mode) => modes::enter(
-            laptop,
+        Call::Next => port::next(port, side, svids, entered, run, held_run, out),
+        Call::StartOver => port::start_over(port, side, entered, run, held_run, out),
+        Call::Drop => port::drop(port, side, run, held_run, out),
+        Call::ResponseTimer => port::response_timer(port),
+        Call::EntryTimer => port::entry_timer(port),
+        Call::ExitTimer => port::exit_timer(port),
+        Call::ProtocolError => port::protocol_error(port),
+        Call::Enter(mode) => port::enter(
+            port,
+            side,
             mode.svid,
             mode.position,
             held_svids,
@@ -68,8 +72,9 @@ pub fn make_call(
             held_run,
             out,
         ),
-        Call::Exit(mode) => modes::exit(
-            laptop,
+        Call::Exit(mode) => port::exit(
+            port,
+            side,
             mode.svid,
             mode.position,
             held_svids,

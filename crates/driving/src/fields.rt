@@ -1,4 +1,4 @@
-// What a line says of its event and of a laptop. Each field but the first has a space before it, and is `-` where there is nothing to tell.
+// What a line says of its event and of a side's laptop. Each field but the first has a space before it, and is `-` where there is nothing to tell.
 use crate::line::Line;
 use crate::line::empty;
 use crate::line::with_decimal;
@@ -8,8 +8,9 @@ use crate::line::with_word;
 use laptop::Candidate;
 use laptop::Held;
 use laptop::Laptop;
-use laptop::Wait;
 use messages::Request;
+use port::Side;
+use port::Wait;
 use text::line::append_field;
 use text::line::append_nothing;
 
@@ -41,11 +42,20 @@ pub fn with_request(line: Line, request: Request) -> Line {
     with_part(with_part(line, request.command), request.position)
 }
 
+// The side's name.
+pub fn with_side(line: Line, side: Side) -> Line {
+    match side {
+        Side::Partner => with_text(line, b" partner"),
+        Side::Cable => with_text(line, b" cable"),
+    }
+}
+
+// The side whose answer is awaited, and the request.
 pub fn with_awaited(line: Line, wait: Wait) -> Line {
-    let Wait::Answer(request) = wait else {
+    let Wait::Answer(side, request) = wait else {
         return with_nothing(line);
     };
-    with_request(with_text(line, b" "), request)
+    with_request(with_text(with_side(line, side), b":"), request)
 }
 
 // How many SVIDs are gathered and, once the list is done, of how many the modes are known.

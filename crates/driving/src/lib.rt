@@ -1,4 +1,4 @@
-// What the programs that drive a laptop share: its calls, its owner, and what their lines say of it.
+// What the programs that drive the laptop end share: its calls, its owner, and what their lines say of it.
 pub mod calls;
 pub mod digest;
 pub mod fields;

@@ -73,6 +73,13 @@ pub fn fresh(word: u32) -> Owner {
     }
 }
 
+pub fn other(side: Side) -> Side {
+    match side {
+        Side::Partner => Side::Cable,
+        Side::Cable => Side::Partner,
+    }
+}
+
 pub fn memory_of(owner: Owner, side: Side) -> Memory {
     match side {
         Side::Partner => owner.partner,

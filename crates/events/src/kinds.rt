@@ -81,7 +81,7 @@ fn is_partners(kind: u8) -> bool
     kind <= PROTOCOL_ERROR
 }
 
-pub(crate) fn side_of(kind: u8) -> Side
+pub fn side_of(kind: u8) -> Side
     ensures { λ r. ⌜ r ≡ sideOf kind ⌝ }
 {
     if kind < CABLE {
@@ -91,7 +91,7 @@ pub(crate) fn side_of(kind: u8) -> Side
 }
 
 // The partner's kind that a kind is, or is with its side added.
-pub(crate) fn without_side(kind: u8) -> u8
+pub fn without_side(kind: u8) -> u8
     ensures { λ r. ⌜ r ≡ withoutSide kind ⌝ }
 {
     if kind < CABLE {

@@ -12,8 +12,8 @@ pub use kinds::LONGEST_EVENT;
 pub use kinds::body_length;
 use kinds::is_known;
 use kinds::is_message;
-use kinds::side_of;
-use kinds::without_side;
+pub use kinds::side_of;
+pub use kinds::without_side;
 use port::Side;
 
 // What *enter* and *exit* name.

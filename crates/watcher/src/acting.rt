@@ -1,21 +1,23 @@
-// What an event makes the laptop do.
+// What an event makes the laptop end do.
 use crate::BLOCK;
 use crate::state::State;
 use crate::state::unread;
 use driving::calls::make_call;
 use events::Call;
 use events::Event;
-use laptop::Laptop;
 use laptop::RUN_WORDS;
-use laptop::Step;
+use port::Port;
+use port::Side;
+use port::Step;
 use streams::input::word_of;
 
 // A request is one object.
 const OBJECT: usize = 4;
 
-// The laptop's step, and the header of the request where one is to be sent.
+// The port's step, the event's side, and the header of the request where one is to be sent.
 pub struct Answer {
     pub step: Step,
+    pub side: Side,
     pub header: u32,
 }
 
@@ -30,7 +32,8 @@ fn message_in(state: State, input: &[u8; BLOCK], count: u8) -> &[u8] {
 }
 
 fn make(
-    laptop: Laptop,
+    port: Port,
+    side: Side,
     call: Call,
     svids: &[u16; 72],
     run: &[u32; RUN_WORDS],
@@ -41,7 +44,8 @@ fn make(
 ) -> Answer {
     let mut request = [0u8; OBJECT];
     let step = make_call(
-        laptop,
+        port,
+        side,
         call,
         svids,
         run,
@@ -53,15 +57,28 @@ fn make(
     );
     Answer {
         step,
+        side,
         header: word_of(&request),
     }
 }
 
 // Nothing is sent where a message is heard.
-fn heard(step: Step) -> Answer {
-    Answer { step, header: 0 }
+fn heard(step: Step, side: Side) -> Answer {
+    Answer {
+        step,
+        side,
+        header: 0,
+    }
 }
 
+pub fn side_of(event: Event) -> Side {
+    match event {
+        Event::Message(side, _) => side,
+        Event::Call(side, _) => side,
+    }
+}
+
+// It is lent its own side's arrays.
 pub fn act(
     state: State,
     event: Event,
@@ -76,23 +93,28 @@ pub fn act(
     held_run: &mut [u32; RUN_WORDS],
     entered: &mut [u8; 72],
 ) -> Answer {
-    let laptop = state.laptop;
+    let port = state.port;
     match event {
-        Event::Message(objects) => heard(hearing::message(
-            laptop,
-            message_in(state, input, objects),
-            svids,
-            modes,
-            identity,
-            run,
-            held_svids,
-            held_modes,
-            held_identity,
-            held_run,
-            entered,
-        )),
-        Event::Call(call) => make(
-            laptop,
+        Event::Message(side, objects) => {
+            let step = port::message(
+                port,
+                side,
+                message_in(state, input, objects),
+                svids,
+                modes,
+                identity,
+                run,
+                held_svids,
+                held_modes,
+                held_identity,
+                held_run,
+                entered,
+            );
+            heard(step, side)
+        }
+        Event::Call(side, call) => make(
+            port,
+            side,
             call,
             svids,
             run,

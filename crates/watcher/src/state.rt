@@ -1,4 +1,4 @@
-// What stays from event to event: the laptop, the part of the input that is read and not yet taken, and where the lines end that are not yet written.
+// What stays from event to event: the port, the part of the input that is read and not yet taken, and where the lines end that are not yet written.
 use crate::BLOCK;
 use crate::acting::Answer;
 use driving::fields::append_held;
@@ -6,6 +6,8 @@ use events::Found;
 use events::LONGEST_EVENT;
 use events::read_event;
 use laptop::Laptop;
+use port::Port;
+use port::seen;
 use streams::block::Unread;
 use streams::block::nothing_read;
 use streams::block::refill;
@@ -23,7 +25,7 @@ use text::line::put;
 const LONGEST_LINE: usize = 29;
 
 pub struct State {
-    pub laptop: Laptop,
+    pub port: Port,
     pub unread: Unread,
     pub at: usize,
 }
@@ -34,9 +36,9 @@ pub struct Next {
     pub found: Found,
 }
 
-pub fn begin(entered: &mut [u8; 72]) -> State {
+pub fn begin(partner_entered: &mut [u8; 72], cable_entered: &mut [u8; 72]) -> State {
     State {
-        laptop: laptop::fresh(entered),
+        port: port::fresh(partner_entered, cable_entered),
         unread: nothing_read(),
         at: 0,
     }
@@ -82,11 +84,11 @@ fn append_laptop(line: &mut [u8], at: usize, laptop: Laptop) -> usize {
 
 fn append_answer(line: &mut [u8], at: usize, number: u64, answer: Answer) -> usize {
     let step = answer.step;
-    let laptop = step.laptop;
+    let side = answer.side;
     let at = append_decimal(line, at, number);
     let at = append_field(line, at, step.refusal);
     let at = append_sent(line, at, step.length, answer.header);
-    append_laptop(line, at, laptop)
+    append_laptop(line, at, seen(side, step.port))
 }
 
 // After the answer to an event: its line is among those to write, and its bytes are taken.
@@ -99,9 +101,9 @@ pub fn answered(
 ) -> State {
     let unread = state.unread;
     let step = answer.step;
-    let laptop = step.laptop;
+    let port = step.port;
     State {
-        laptop,
+        port,
         unread: taken(unread, length),
         at: append_answer(output, state.at, number, answer),
     }

@@ -1,5 +1,6 @@
 -- `is_known` meets its promise.
 use mathlib.Core.Path.{ap, sym, _∙_}
+use native.Mathlib.Omega.{arith}
 use borrow.Author.Needs.{needs}
 use Rattle.events.specs.Events.{saysSide}
 use Rattle.events.proofs.Sides.{known-partner, known-cable}
@@ -10,7 +11,7 @@ is-partners-requires : tie.Need-is-partners-requires
 is-partners-requires c κs = search needs
 
 returns : tie.Need-returns
-returns c = c .is-partners .ensures ∙ sym (known-partner _ (c .before .if1 .taken))
+returns c = c .is-partners .ensures ∙ sym (known-partner _ (omega (arith, c .before .if1 .taken)))
 
 without-side-requires : tie.Need-without-side-requires
 without-side-requires c κs = search needs
@@ -19,7 +20,7 @@ says-side-requires : tie.Need-says-side-requires
 says-side-requires c κs = search needs
 
 returns-2 : tie.Need-returns-2
-returns-2 c = c .says-side .ensures ∙ ap saysSide (c .before .without-side .ensures) ∙ sym (known-cable _ (c .before .before .if1 .left))
+returns-2 c = c .says-side .ensures ∙ ap saysSide (c .before .without-side .ensures) ∙ sym (known-cable _ (omega (arith, c .before .before .if1 .left)))
 
 pub is-known-spec : {M : Type 1} → statement M
 is-known-spec =

@@ -8,10 +8,12 @@ use driving::digest::of_bytes;
 use driving::owning;
 use driving::owning::Owner;
 use driving::owning::hear;
+use driving::owning::report;
 use driving::owning::write_held;
 use events::Call;
-use laptop::Step;
 use laptop::Told;
+use port::Side;
+use port::Step;
 use streams::input::GREATEST;
 use streams::input::first_bytes;
 use streams::input::length_of;
@@ -28,10 +30,11 @@ const UNWRITTEN: u8 = 0xEE;
 // What the runs hold at the start.
 const UNWRITTEN_WORD: u32 = 0xEEEEEEEE;
 
-// What stays from event to event: the laptop's owner, and the length of the output buffer that it lends.
+// What stays from event to event: the owner, and the length of the output buffer that it lends to each side's calls.
 pub struct State {
     pub owner: Owner,
-    output: u8,
+    partner_output: u8,
+    cable_output: u8,
 }
 
 // The digest of a lent output buffer.
@@ -52,8 +55,9 @@ pub enum Report {
     Entered(u32),
 }
 
-// The first `length` bytes of `sent` are to be sent.
+// Of a timer or the protocol error, the side is the one that waited. The first `length` bytes of `sent` are to be sent.
 pub struct Answer {
+    pub side: Side,
     pub refusal: u8,
     pub length: u8,
     pub sent: [u8; OBJECT],
@@ -71,13 +75,15 @@ pub struct Outcome {
 pub fn begin() -> State {
     State {
         owner: owning::fresh(UNWRITTEN_WORD),
-        output: FIRST_OUTPUT,
+        partner_output: FIRST_OUTPUT,
+        cable_output: FIRST_OUTPUT,
     }
 }
 
 // The answer to an event that is accepted and tells nothing.
-fn quiet() -> Answer {
+fn quiet(side: Side) -> Answer {
     Answer {
+        side,
         refusal: 0,
         length: 0,
         sent: [0u8; OBJECT],
@@ -90,16 +96,17 @@ fn quiet() -> Answer {
 
 fn stepped(step: Step) -> Answer {
     let told = step.told;
+    let side = step.side;
     Answer {
         refusal: step.refusal,
         length: step.length,
         told,
-        ..quiet()
+        ..quiet(side)
     }
 }
 
-fn take_message(state: State, bytes: &[u8]) -> Outcome {
-    let turn = hear(state.owner, bytes);
+fn take_message(state: State, side: Side, bytes: &[u8]) -> Outcome {
+    let turn = hear(state.owner, side, bytes);
     let owner = turn.owner;
     Outcome {
         answer: stepped(turn.step),
@@ -133,10 +140,18 @@ fn object_in(output: &[u8]) -> [u8; OBJECT] {
     [output[0], output[1], output[2], output[3]]
 }
 
-fn make(state: State, call: Call) -> Outcome {
+// The length of the output buffer of the side's calls.
+fn output_for(state: State, side: Side) -> u8 {
+    match side {
+        Side::Partner => state.partner_output,
+        Side::Cable => state.cable_output,
+    }
+}
+
+fn make(state: State, side: Side, call: Call) -> Outcome {
     let mut buffer = [UNWRITTEN; GREATEST];
-    let output = &mut buffer[0..length_of(state.output)];
-    let turn = owning::make(state.owner, call, output);
+    let output = &mut buffer[0..length_of(output_for(state, side))];
+    let turn = owning::make(state.owner, side, call, output);
     let owner = turn.owner;
     Outcome {
         answer: Answer {
@@ -158,52 +173,56 @@ fn written(bytes: &[u8], refusal: u8, length: u16) -> Catalogue {
     Catalogue::Nothing
 }
 
-fn write(owner: Owner, room: usize) -> Answer {
+fn write(owner: Owner, side: Side, room: usize) -> Answer {
     let mut buffer = [UNWRITTEN; CATALOGUE_ROOM];
     let output = &mut buffer[0..at_most(room, CATALOGUE_ROOM)];
-    let bytes = write_held(owner, output);
+    let bytes = write_held(owner, side, output);
     Answer {
         refusal: bytes.refusal,
         output: Output::Digest(of_bytes(output)),
         catalogue: written(output, bytes.refusal, bytes.length),
-        ..quiet()
+        ..quiet(side)
     }
 }
 
-fn count_entered(owner: Owner, svid: u16) -> Answer {
-    let held_svids = owner.held_svids;
-    let entered = owner.entered;
+fn count_entered(owner: Owner, side: Side, svid: u16) -> Answer {
     Answer {
-        report: Report::Entered(laptop::report(owner.laptop, svid, &held_svids, &entered)),
-        ..quiet()
+        report: Report::Entered(report(owner, side, svid)),
+        ..quiet(side)
     }
 }
 
-fn lend(owner: Owner, lengths: Lengths) -> State {
-    let mut owner = owner;
-    owner.run_words = lengths.run;
-    owner.held_words = lengths.held_run;
-    State {
-        owner,
-        output: lengths.output,
+fn lend(state: State, side: Side, lengths: Lengths) -> State {
+    let owner = owning::lend(state.owner, side, lengths.run, lengths.held_run);
+    match side {
+        Side::Partner => State {
+            owner,
+            partner_output: lengths.output,
+            ..state
+        },
+        Side::Cable => State {
+            owner,
+            cable_output: lengths.output,
+            ..state
+        },
     }
 }
 
-pub fn take(state: State, event: Event, message: &[u8; LONGEST_MESSAGE]) -> Outcome {
+pub fn take(state: State, side: Side, event: Event, message: &[u8; LONGEST_MESSAGE]) -> Outcome {
     match event {
-        Event::Message(length) => take_message(state, first_bytes(message, length)),
-        Event::Call(call) => make(state, call),
+        Event::Message(length) => take_message(state, side, first_bytes(message, length)),
+        Event::Call(call) => make(state, side, call),
         Event::Report(svid) => Outcome {
-            answer: count_entered(state.owner, svid),
+            answer: count_entered(state.owner, side, svid),
             state,
         },
         Event::Catalogue(room) => Outcome {
-            answer: write(state.owner, room),
+            answer: write(state.owner, side, room),
             state,
         },
         Event::Lengths(lengths) => Outcome {
-            answer: quiet(),
-            state: lend(state.owner, lengths),
+            answer: quiet(side),
+            state: lend(state, side, lengths),
         },
     }
 }

@@ -1,4 +1,4 @@
-// Drives the laptop end by the streams of events on standard input, which can lend it runs and buffers of any length: each event gets one line.
+// Drives the laptop end by the streams of events on standard input, which can lend each side runs and buffers of any length: each event gets one line.
 mod answering;
 mod event;
 mod report;
@@ -15,7 +15,7 @@ use streams::finish::MOST;
 use streams::finish::Turn;
 use streams::finish::print_finish;
 
-// Answers a stream, whose laptop is fresh, after so many events of the streams before it.
+// Answers a stream, whose port is fresh, after so many events of the streams before it.
 fn answer_stream(stream: u64, before: u64) -> Finish {
     let mut message = [0u8; LONGEST_MESSAGE];
     let mut state = begin();
@@ -24,8 +24,8 @@ fn answer_stream(stream: u64, before: u64) -> Finish {
     while answered < MOST {
         match take_event(&mut message) {
             Taken::Without(turn) => return Finish { turn, answered },
-            Taken::Whole(event) => {
-                let outcome = take(state, event, &message);
+            Taken::Whole(side, event) => {
+                let outcome = take(state, side, event, &message);
                 state = outcome.state;
                 answered += 1;
                 number += 1;
@@ -56,7 +56,7 @@ fn answer_all() -> Finish {
 fn main() {
     io::write_all(
         STDOUT_FILENO,
-        b"stream event refusal sent output told awaited candidate pages held candidate_run held_run catalogue report\n",
+        b"stream event side refusal sent output told awaited candidate pages held candidate_run held_run catalogue report other_candidate other_pages other_held\n",
     );
     print_finish(answer_all(), b" events\n");
 }

@@ -1,4 +1,5 @@
-// The line that an event gets: the number of its stream, its own in that stream, what the call led to, what the laptop and its runs have come to, and what was read.
+// The line that an event gets: the number of its stream, its own in that stream, its side, what the call led to, what the side's laptop and its runs have come to,
+// what was read, and what the other side's laptop has come to.
 use crate::answering::Answer;
 use crate::answering::Catalogue;
 use crate::answering::Outcome;
@@ -14,17 +15,21 @@ use driving::fields::with_nothing;
 use driving::fields::with_number;
 use driving::fields::with_part;
 use driving::fields::with_request;
+use driving::fields::with_side;
 use driving::line::Line;
 use driving::line::print;
 use driving::line::with_bytes;
 use driving::line::with_half;
 use driving::line::with_text;
 use driving::line::with_word;
-use driving::owning::Owner;
+use driving::owning::Memory;
+use driving::owning::memory_of;
+use driving::owning::other;
 use laptop::Laptop;
 use laptop::Notice;
 use laptop::Told;
 use messages::Request;
+use port::seen;
 use streams::input::first_bytes;
 
 fn with_sent(line: Line, sent: &[u8], length: u8) -> Line {
@@ -64,24 +69,24 @@ fn with_told(line: Line, told: Told) -> Line {
 }
 
 fn with_step(line: Line, answer: Answer) -> Line {
+    let side = answer.side;
     let sent = answer.sent;
     let output = answer.output;
     let told = answer.told;
-    let line = with_number(line, answer.refusal as u64);
+    let line = with_number(with_side(line, side), answer.refusal as u64);
     let line = with_sent(line, &sent, answer.length);
     with_told(with_output(line, output), told)
 }
 
 fn with_laptop(line: Line, laptop: Laptop) -> Line {
-    let wait = laptop.wait;
     let held = laptop.held;
-    let line = with_candidate(with_awaited(line, wait), laptop);
+    let line = with_candidate(line, laptop);
     with_held(with_number(line, laptop.pages as u64), held)
 }
 
-fn with_runs(line: Line, owner: Owner) -> Line {
-    let run = owner.run;
-    let held_run = owner.held_run;
+fn with_runs(line: Line, memory: Memory) -> Line {
+    let run = memory.run;
+    let held_run = memory.held_run;
     with_digest(with_digest(line, of_words(&run)), of_words(&held_run))
 }
 
@@ -100,12 +105,21 @@ fn with_report(line: Line, report: Report) -> Line {
     with_number(line, count as u64)
 }
 
-pub fn print_event(stream: u64, number: u64, outcome: Outcome) {
-    let answer = outcome.answer;
+// What was read of a side.
+fn with_readings(line: Line, answer: Answer) -> Line {
     let catalogue = answer.catalogue;
     let report = answer.report;
+    with_report(with_catalogue(line, catalogue), report)
+}
+
+pub fn print_event(stream: u64, number: u64, outcome: Outcome) {
+    let answer = outcome.answer;
+    let side = answer.side;
     let owner = outcome.state.owner;
-    let line = with_step(place(stream, number), answer);
-    let line = with_runs(with_laptop(line, owner.laptop), owner);
-    print(with_report(with_catalogue(line, catalogue), report));
+    let port = owner.port;
+    let wait = port.wait;
+    let line = with_awaited(with_step(place(stream, number), answer), wait);
+    let line = with_runs(with_laptop(line, seen(side, port)), memory_of(owner, side));
+    let line = with_readings(line, answer);
+    print(with_laptop(line, seen(other(side), port)));
 }

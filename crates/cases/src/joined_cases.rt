@@ -6,6 +6,7 @@ use crate::link::fail;
 use crate::link::fresh;
 use crate::link::gather;
 use crate::link::reload;
+use crate::owner::laptop_of;
 use crate::report::case;
 use crate::report::with_catalogue;
 use crate::report::with_message;
@@ -19,7 +20,7 @@ use driving::line::with_decimal;
 use driving::line::with_text;
 
 fn print_received(ends: Ends) {
-    let laptop = ends.owner.laptop;
+    let laptop = laptop_of(ends.owner);
     let held = laptop.held;
     let line = with_decimal(with_text(case(11), b" n="), ends.dock.count as u64);
     let line = with_named(line, b", first page unconfirmed once:", laptop.pages as u64);

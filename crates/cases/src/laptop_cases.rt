@@ -1,6 +1,7 @@
 // Case 10 and Case L: what the laptop does with answers that are given to it.
 use crate::owner::Turn;
 use crate::owner::hear;
+use crate::owner::laptop_of;
 use crate::owner::next;
 use crate::report::case;
 use crate::report::with_catalogue;
@@ -56,7 +57,7 @@ fn with_sent(line: Line, request: Message) -> Line {
 // The watcher's line of an event; the owner after it is handed on.
 fn shown(number: u64, turn: Turn) -> Owner {
     let owner = turn.owner;
-    let laptop = owner.laptop;
+    let laptop = laptop_of(owner);
     let held = laptop.held;
     let line = with_named(empty(), b"case L:", number);
     let line = with_sent(with_number(line, turn.refusal as u64), turn.request);

@@ -1,5 +1,6 @@
 // Both ends, joined by hand: what one sends is given to the other.
 use crate::owner::hear;
+use crate::owner::laptop_of;
 use crate::owner::next;
 use crate::responder::load;
 use crate::responder::reply;
@@ -68,7 +69,7 @@ pub fn gather(ends: Ends) -> Ends {
     let mut ends = ends;
     let mut exchanges = 0;
     while exchanges < BUDGET {
-        let laptop = ends.owner.laptop;
+        let laptop = laptop_of(ends.owner);
         let candidate = laptop.candidate;
         if let Candidate::Absent = candidate {
             return ends;

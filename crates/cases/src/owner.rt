@@ -1,9 +1,12 @@
-// The turns of the laptop's owner: it asks what it needs next, and hears an answer.
+// The turns of the laptop end's owner, all on the partner's side: it asks what it needs next, and hears an answer.
 use crate::written::Message;
 use crate::written::nothing;
 use driving::owning;
 use driving::owning::Owner;
 use events::Call;
+use laptop::Laptop;
+use port::Side;
+use port::seen;
 use streams::input::first_bytes;
 
 // What a call gave: the refusal number, the request to send, and the owner after it.
@@ -13,9 +16,14 @@ pub struct Turn {
     pub owner: Owner,
 }
 
+// The laptop of document 01.
+pub fn laptop_of(owner: Owner) -> Laptop {
+    seen(Side::Partner, owner.port)
+}
+
 pub fn next(owner: Owner) -> Turn {
     let mut bytes = nothing().bytes;
-    let turn = owning::make(owner, Call::Next, &mut bytes);
+    let turn = owning::make(owner, Side::Partner, Call::Next, &mut bytes);
     let step = turn.step;
     let owner = turn.owner;
     Turn {
@@ -30,7 +38,7 @@ pub fn next(owner: Owner) -> Turn {
 
 pub fn hear(owner: Owner, message: Message) -> Turn {
     let bytes = message.bytes;
-    let turn = owning::hear(owner, first_bytes(&bytes, message.length));
+    let turn = owning::hear(owner, Side::Partner, first_bytes(&bytes, message.length));
     let owner = turn.owner;
     Turn {
         refusal: turn.step.refusal,

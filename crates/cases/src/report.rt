@@ -1,4 +1,5 @@
 // The parts of a case's lines.
+use crate::owner::laptop_of;
 use crate::written::Message;
 use driving::fields::with_held;
 use driving::fields::with_number;
@@ -9,6 +10,7 @@ use driving::line::with_half;
 use driving::line::with_text;
 use driving::owning::Owner;
 use driving::owning::write_held;
+use port::Side;
 use streams::input::first_bytes;
 use streams::input::half_of;
 
@@ -57,10 +59,10 @@ pub fn with_refusal(line: Line, refusal: u8) -> Line {
 }
 
 pub fn with_catalogue(line: Line, owner: Owner) -> Line {
-    let laptop = owner.laptop;
+    let laptop = laptop_of(owner);
     let held = laptop.held;
     let mut buffer = [0u8; CATALOGUE];
-    let written = write_held(owner, &mut buffer);
+    let written = write_held(owner, Side::Partner, &mut buffer);
     let line = with_held(with_text(line, b" held"), held);
     let line = with_named(line, b", catalogue of", written.length as u64);
     let line = with_text(line, b" bytes ");

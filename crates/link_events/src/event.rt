@@ -1,11 +1,15 @@
 // The events, and reading one from standard input.
 use driving::calls::take_call;
 use events::Call;
+use events::side_of;
+use events::without_side;
+use port::Side;
 use streams::finish::Turn;
 use streams::input::Byte;
 use streams::input::read_byte;
 
-// The kinds of event. The laptop's calls have those of the watcher.
+// The partner's kinds of event. The laptop's calls have those of the watcher. All but the timer and the protocol error say a side: the cable's are the same
+// with their side added.
 const NEXT: u8 = 0x40;
 
 const DROP: u8 = 0x42;
@@ -13,6 +17,8 @@ const DROP: u8 = 0x42;
 const TIMER: u8 = 0x43;
 
 const PROTOCOL_ERROR: u8 = 0x46;
+
+const ENTER: u8 = 0x47;
 
 const EXIT: u8 = 0x48;
 
@@ -34,44 +40,49 @@ const FAILED: u8 = 0x57;
 
 const NEW_STREAM: u8 = 0x58;
 
-// The timer is that of the awaited command.
+// An owner's call, the timer of the awaited command, the protocol error, or an event on the side's link.
 pub enum Event {
     Call(Call),
     Timer,
-    RequestReaches,
-    RequestLost,
-    Give,
-    Busy,
-    AnswerArrives,
-    AnswerLost,
-    Sent,
-    Failed,
+    ProtocolError,
+    Linked(linking::Event),
 }
 
-// The event that stood next, or the turn without one.
+// The event that stood next, with the side that it says, or the turn without one.
 pub enum Taken {
-    Whole(Event),
+    Whole(Side, Event),
     Without(Turn),
 }
 
 fn take_laptop_call(kind: u8) -> Taken {
     match take_call(kind) {
-        driving::calls::Taken::Whole(call) => Taken::Whole(Event::Call(call)),
+        driving::calls::Taken::Whole(side, call) => Taken::Whole(side, Event::Call(call)),
         driving::calls::Taken::Without(turn) => Taken::Without(turn),
     }
 }
 
-// Of the kinds from REQUEST_REACHES to FAILED.
-fn event_of(kind: u8) -> Event {
+// Of the partner's kinds from REQUEST_REACHES to FAILED.
+fn linked(kind: u8) -> linking::Event {
     match kind {
-        REQUEST_REACHES => Event::RequestReaches,
-        REQUEST_LOST => Event::RequestLost,
-        GIVE => Event::Give,
-        BUSY => Event::Busy,
-        ANSWER_ARRIVES => Event::AnswerArrives,
-        ANSWER_LOST => Event::AnswerLost,
-        SENT => Event::Sent,
-        _ => Event::Failed,
+        REQUEST_REACHES => linking::Event::RequestReaches,
+        REQUEST_LOST => linking::Event::RequestLost,
+        GIVE => linking::Event::Give,
+        BUSY => linking::Event::Busy,
+        ANSWER_ARRIVES => linking::Event::AnswerArrives,
+        ANSWER_LOST => linking::Event::AnswerLost,
+        SENT => linking::Event::Sent,
+        _ => linking::Event::Failed,
+    }
+}
+
+// Of the kinds that say a side.
+fn take_for_side(kind: u8) -> Taken {
+    let partners = without_side(kind);
+    match partners {
+        NEXT..=DROP => take_laptop_call(kind),
+        ENTER..=EXIT => take_laptop_call(kind),
+        REQUEST_REACHES..=FAILED => Taken::Whole(side_of(kind), Event::Linked(linked(partners))),
+        _ => Taken::Without(Turn::Unknown),
     }
 }
 
@@ -80,11 +91,9 @@ pub fn take_event() -> Taken {
         return Taken::Without(Turn::Ended);
     };
     match kind {
-        NEXT..=DROP => take_laptop_call(kind),
-        TIMER => Taken::Whole(Event::Timer),
-        PROTOCOL_ERROR..=EXIT => take_laptop_call(kind),
-        REQUEST_REACHES..=FAILED => Taken::Whole(event_of(kind)),
+        TIMER => Taken::Whole(Side::Partner, Event::Timer),
+        PROTOCOL_ERROR => Taken::Whole(Side::Partner, Event::ProtocolError),
         NEW_STREAM => Taken::Without(Turn::NewStream),
-        _ => Taken::Without(Turn::Unknown),
+        _ => take_for_side(kind),
     }
 }

@@ -1,12 +1,9 @@
-// Joins the laptop end and the dock end by the link of demand 3, drives them by the streams of events on standard input, and prints a line for each
-// event.
-mod at_dock;
+// Joins each side of the laptop end and a dock end by the link of demand 3, drives them by the streams of events on standard input, and prints a line for
+// each event.
 mod at_laptop;
 mod begin;
 mod event;
-mod link;
 mod report;
-mod start;
 mod state;
 mod system;
 
@@ -14,28 +11,28 @@ use begin::begin;
 use event::Taken;
 use event::take_event;
 use libc::STDOUT_FILENO;
+use linking::start::read_start;
 use report::print_event;
-use start::read_start;
-use state::State;
 use streams::finish::Finish;
 use streams::finish::MOST;
 use streams::finish::Turn;
 use streams::finish::print_finish;
+use system::Ends;
 use system::take;
 
 // Answers the events of a stream, after so many events of the streams before it.
-fn answer_events(stream: u64, before: u64, begun: State) -> Finish {
-    let mut state = begun;
+fn answer_events(stream: u64, before: u64, begun: Ends) -> Finish {
+    let mut ends = begun;
     let mut answered = before;
     let mut number: u64 = 0;
     while answered < MOST {
         match take_event() {
             Taken::Without(turn) => return Finish { turn, answered },
-            Taken::Whole(event) => {
-                state = take(state, event);
+            Taken::Whole(side, event) => {
+                ends = take(ends, side, event);
                 answered += 1;
                 number += 1;
-                print_event(stream, number, state);
+                print_event(stream, number, ends);
             }
         }
     }
@@ -45,11 +42,14 @@ fn answer_events(stream: u64, before: u64, begun: State) -> Finish {
     }
 }
 
-// Answers a stream from what it begins with, which is bad where it is cut or breaks a limit, after so many events of the streams before it.
+// Answers a stream from what it begins with on each side, which is bad where it is cut or breaks a limit, after so many events of the streams before it.
 fn answer_stream(stream: u64, before: u64) -> Finish {
-    let start = read_start();
-    if start.is_good {
-        return answer_events(stream, before, begin(start));
+    let partner = read_start();
+    let cable = read_start();
+    if partner.is_good {
+        if cable.is_good {
+            return answer_events(stream, before, begin(partner, cable));
+        }
     }
     Finish {
         turn: Turn::BadStart,
@@ -83,7 +83,7 @@ fn print_last(finish: Finish) {
 fn main() {
     io::write_all(
         STDOUT_FILENO,
-        b"stream event permitted refusal pages candidate held catalogue page lost\n",
+        b"stream event side permitted refusal pages candidate held catalogue page lost other_pages other_candidate other_held\n",
     );
     print_last(answer_all());
 }

@@ -1,7 +1,7 @@
-// The line that an event gets: the number of its stream, its own in that stream, whether it is permitted, what its call led to, and how both ends stand then.
-use crate::state::FarEnd;
-use crate::state::Refusal;
-use crate::state::State;
+// The line that an event gets: the number of its stream, its own in that stream, its side, whether it is permitted, what its call led to, how both ends of that
+// side's link stand then, and how the other side's laptop stands.
+use crate::system::Ends;
+use crate::system::end_at;
 use driving::digest::of_bytes;
 use driving::fields::place;
 use driving::fields::with_candidate;
@@ -9,12 +9,18 @@ use driving::fields::with_digest;
 use driving::fields::with_held;
 use driving::fields::with_nothing;
 use driving::fields::with_number;
+use driving::fields::with_side;
 use driving::line::Line;
 use driving::line::print;
 use driving::line::with_text;
 use driving::owning::Owner;
+use driving::owning::other;
 use driving::owning::write_held;
 use laptop::Laptop;
+use linking::far_end::FarEnd;
+use linking::far_end::Refusal;
+use port::Side;
+use port::seen;
 use streams::input::first_bytes;
 
 const LONGEST_CATALOGUE: usize = 2402;
@@ -33,10 +39,10 @@ fn with_refusal(line: Line, refusal: Refusal) -> Line {
     }
 }
 
-// The digest of the held catalogue's bytes.
-fn with_catalogue(line: Line, owner: Owner) -> Line {
+// The digest of the bytes of the side's held catalogue.
+fn with_catalogue(line: Line, owner: Owner, side: Side) -> Line {
     let mut buffer = [0u8; LONGEST_CATALOGUE];
-    let bytes = write_held(owner, &mut buffer);
+    let bytes = write_held(owner, side, &mut buffer);
     if bytes.refusal != 0 {
         return with_nothing(line);
     }
@@ -54,11 +60,18 @@ fn with_far_end(line: Line, far_end: FarEnd) -> Line {
     with_number(line, far_end.lost)
 }
 
-pub fn print_event(stream: u64, number: u64, state: State) {
-    let far_end = state.far_end;
-    let owner = state.owner;
+fn with_event(line: Line, far_end: FarEnd) -> Line {
     let refusal = far_end.refusal;
-    let line = with_permitted(place(stream, number), far_end.is_permitted);
-    let line = with_laptop(with_refusal(line, refusal), owner.laptop);
-    print(with_far_end(with_catalogue(line, owner), far_end));
+    with_refusal(with_permitted(line, far_end.is_permitted), refusal)
+}
+
+pub fn print_event(stream: u64, number: u64, ends: Ends) {
+    let side = ends.side;
+    let far_end = end_at(ends, side);
+    let owner = ends.owner;
+    let port = owner.port;
+    let line = with_event(with_side(place(stream, number), side), far_end);
+    let line = with_catalogue(with_laptop(line, seen(side, port)), owner, side);
+    let line = with_far_end(line, far_end);
+    print(with_laptop(line, seen(other(side), port)));
 }

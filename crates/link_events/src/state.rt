@@ -1,47 +1,8 @@
-// What stays from event to event, and what the last event led to.
-use crate::link::Link;
-use dock::Dock;
+// The laptop end's owner and the far end of a side's link.
 use driving::owning::Owner;
-use laptop::RUN_WORDS;
-
-// The modes of the dock's SVIDs: how many each has, and six words for each.
-pub struct Modes {
-    pub counts: [u8; 72],
-    pub words: [u32; RUN_WORDS],
-}
-
-// The refusal number of the call that an event made.
-pub enum Refusal {
-    Nothing,
-    Number(u8),
-}
-
-// The dock and the link to it. `lost` counts the confirmations lost in this gathering. The last two fields are of the last event.
-pub struct FarEnd {
-    pub dock: Dock,
-    pub modes: Modes,
-    pub link: Link,
-    pub lost: u64,
-    pub is_permitted: bool,
-    pub refusal: Refusal,
-}
+use linking::far_end::FarEnd;
 
 pub struct State {
     pub owner: Owner,
     pub far_end: FarEnd,
-}
-
-pub fn not_permitted(far_end: FarEnd) -> FarEnd {
-    FarEnd {
-        is_permitted: false,
-        ..far_end
-    }
-}
-
-// The confirmations lost, with one more or not.
-pub fn counted(lost: u64, is_lost: bool) -> u64 {
-    if is_lost {
-        return std::num::wrapping_add_u64(lost, 1);
-    }
-    lost
 }

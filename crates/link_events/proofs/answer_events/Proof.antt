@@ -8,10 +8,10 @@ use Rattle.link_events.proofs.answer_events.Statement.{statement}
 use Rattle.link_events.proofs.answer_events.Tie as tie
 
 abbrev Inv-loop : tie.InvT-loop
-Inv-loop stream before state₀ answered₀ number₀ state answered number = number ≤ answered
+Inv-loop stream before ends₀ answered₀ number₀ ends answered number = number ≤ answered
 
 abbrev μ-loop : tie.MeasureT-loop
-μ-loop stream before state₀ answered₀ number₀ state answered number = turnsLeft answered
+μ-loop stream before ends₀ answered₀ number₀ ends answered number = turnsLeft answered
 
 pub answer-events-spec : {M : Type 1} → statement M
 answer-events-spec =

@@ -6,10 +6,10 @@ use Rattle.link_events.proofs.begin.gather_old.Statement.{statement}
 use Rattle.link_events.proofs.begin.gather_old.Tie as tie
 
 abbrev Inv-loop : tie.InvT-loop
-Inv-loop state₀ number₀ state number = Unit {0}
+Inv-loop side state₀ number₀ state number = Unit {0}
 
 abbrev μ-loop : tie.MeasureT-loop
-μ-loop state₀ number₀ state number = 15 - number
+μ-loop side state₀ number₀ state number = 15 - number
 
 pub gather-old-spec : {M : Type 1} → statement M
 gather-old-spec =
@@ -17,7 +17,6 @@ gather-old-spec =
     (tie.spec
     Inv-loop
     μ-loop
-    (λ c κs. search needs)
     (λ c κs. search needs)
     (λ c κs. search needs)
     (λ c. search needs)

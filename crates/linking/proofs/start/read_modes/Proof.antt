@@ -1,9 +1,9 @@
--- `link_events::start::read_modes` is safe and ends. The measure is how many SVIDs are left, and nothing has to hold from turn to turn.
+-- `linking::start::read_modes` is safe and ends. The measure is how many SVIDs are left, and nothing has to hold from turn to turn.
 -- Assumes nothing.
 use Prim.Native.Nat.{_-_}
 use borrow.Author.Needs.{needs}
-use Rattle.link_events.proofs.start.read_modes.Statement.{statement}
-use Rattle.link_events.proofs.start.read_modes.Tie as tie
+use Rattle.linking.proofs.start.read_modes.Statement.{statement}
+use Rattle.linking.proofs.start.read_modes.Tie as tie
 
 abbrev Inv-loop : tie.InvT-loop
 Inv-loop count counts₀ words₀ place₀ counts words place = Unit {0}

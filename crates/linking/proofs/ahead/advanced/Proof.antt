@@ -1,9 +1,9 @@
--- `link_events::begin::advanced` is safe and ends. The measure is how many pages are left, and nothing has to hold from turn to turn.
+-- `linking::ahead::advanced` is safe and ends. The measure is how many pages are left, and nothing has to hold from turn to turn.
 -- Assumes nothing.
 use Prim.Native.Nat.{_-_}
 use borrow.Author.Needs.{needs}
-use Rattle.link_events.proofs.begin.advanced.Statement.{statement}
-use Rattle.link_events.proofs.begin.advanced.Tie as tie
+use Rattle.linking.proofs.ahead.advanced.Statement.{statement}
+use Rattle.linking.proofs.ahead.advanced.Tie as tie
 
 abbrev Inv-loop : tie.InvT-loop
 Inv-loop pages far-end₀ page₀ far-end page = Unit {0}

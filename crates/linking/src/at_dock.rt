@@ -1,15 +1,15 @@
 // Events at the dock.
-use crate::event::Event;
+use crate::Event;
+use crate::far_end::FarEnd;
+use crate::far_end::Modes;
+use crate::far_end::Refusal;
+use crate::far_end::counted;
+use crate::far_end::permitted;
 use crate::link::ANSWER;
 use crate::link::REQUEST;
 use crate::link::link_after;
 use crate::link::loses_confirmation;
 use crate::link::with_answer;
-use crate::state::FarEnd;
-use crate::state::Modes;
-use crate::state::Refusal;
-use crate::state::counted;
-use crate::state::not_permitted;
 use dock::Dock;
 use dock::Policy;
 use dock::Standing;
@@ -167,7 +167,7 @@ fn answer(far_end: FarEnd, is_given: bool) -> FarEnd {
     let dock = far_end.dock;
     let standing = dock.standing;
     let Standing::Asking(request) = standing else {
-        return not_permitted(far_end);
+        return permitted(far_end, false);
     };
     if is_given {
         return send(far_end, request, given(dock, far_end.modes, request));

@@ -1,5 +1,5 @@
 // The link: the request under way, and the answer to the last request that reached the dock.
-use crate::event::Event;
+use crate::Event;
 
 // A request is one object, an answer at most seven.
 pub const REQUEST: usize = 4;

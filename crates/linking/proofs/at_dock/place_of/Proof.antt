@@ -1,10 +1,10 @@
--- `link_events::at_dock::place_of` is safe and ends. The measure is how many SVIDs are left, and nothing has to hold from turn to turn.
+-- `linking::at_dock::place_of` is safe and ends. The measure is how many SVIDs are left, and nothing has to hold from turn to turn.
 -- Assumes nothing.
 use lib.ListN.{length}
 use Prim.Native.Nat.{_-_}
 use borrow.Author.Needs.{needs}
-use Rattle.link_events.proofs.at_dock.place_of.Statement.{statement}
-use Rattle.link_events.proofs.at_dock.place_of.Tie as tie
+use Rattle.linking.proofs.at_dock.place_of.Statement.{statement}
+use Rattle.linking.proofs.at_dock.place_of.Tie as tie
 
 abbrev Inv-loop : tie.InvT-loop
 Inv-loop svid list place₀ place = Unit {0}

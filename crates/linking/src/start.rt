@@ -1,5 +1,8 @@
-// What a stream begins with: the dock's data, its first page, and whether the laptop holds an old catalogue.
-use crate::state::Modes;
+// What a far end begins with: the dock's data, its first page, and whether the laptop end holds an old catalogue.
+use crate::ahead::advanced;
+use crate::far_end::FarEnd;
+use crate::far_end::Modes;
+use crate::far_end::end_of;
 use dock::Dock;
 use dock::Step;
 use laptop::MODES_EACH;
@@ -19,9 +22,9 @@ const UNREAD: u8 = 255;
 // The dock is loaded. Where the data is good, `page` is how many pages it has sent before.
 pub struct Start {
     pub is_good: bool,
-    pub dock: Dock,
-    pub modes: Modes,
-    pub page: u8,
+    dock: Dock,
+    modes: Modes,
+    page: u8,
     pub holds_old: bool,
 }
 
@@ -139,7 +142,7 @@ fn is_good(refusal: u8, has_modes: bool, is_whole: bool, holds_old: u8) -> bool 
     holds_old <= 1
 }
 
-// Behind the dock's data stand its modes, its page, and 0 or 1 for what the laptop holds.
+// Behind the dock's data stand its modes, its page, and 0 or 1 for what the laptop end holds.
 pub fn read_start() -> Start {
     let step = read_dock();
     let dock = step.dock;
@@ -155,4 +158,10 @@ pub fn read_start() -> Start {
         page: last[0],
         holds_old: last[1] == 1,
     }
+}
+
+pub fn first_end(start: Start) -> FarEnd {
+    let modes = start.modes;
+    let ahead = advanced(end_of(start.dock, modes), start.page);
+    end_of(ahead.dock, modes)
 }

@@ -1,13 +1,14 @@
 -- The three demands, as theorems about the definitions that the promises of the code cite. Every public function promises that its result is the
 -- one that its definition gives, for all arguments: it has no `requires`, and it finishes (docs/PROMISES.md).
 use mathlib.Core.Logic.{_↔_}
+use mathlib.Core.Option.{some}
 use mathlib.Core.Path.{_≡_}
 use mathlib.Core.Bool.{true, false}
 use mathlib.Core.List.{List, [], _++_}
 use Prim.Native.Nat.{ℕ, _+_, _*_, _/_, _^_, _<_, _≤_}
 use lib.ListN.{length, getD, take, replicate}
 use Rattle.laws.specs.Bounded.{Below}
-use Rattle.messages.specs.Layout.{reserved, Message, Representable, messageBytes, withOurVersion, withReservedClear, withReservedSet}
+use Rattle.messages.specs.Layout.{reserved, req, Message, Representable, messageBytes, withOurVersion, withReservedClear, withReservedSet}
 use Rattle.messages.specs.Reading.{headerIn, accepted, readOutcome}
 use Rattle.messages.specs.Writing.{wellShaped, Written}
 use Rattle.messages.proofs.Laws.{write-read}
@@ -27,13 +28,14 @@ use Rattle.dock.specs.declared.Dock.{Dock}
 use Rattle.dock.specs.declared.Standing.the-variants.{Ready}
 use Rattle.dock.proofs.Laws.{refusal-leaves as Dock·refusal-leaves}
 use Rattle.dock.proofs.Laws.{dock-pages}
+use Rattle.laptop.specs.Calls.{refusedBy as Laptop·refusedBy}
 use Rattle.laptop.specs.State.{Memory, freshLaptop, identityRequest}
 use Rattle.owner.specs.Owner.{anyEntered}
 use Rattle.laptop.specs.declared.Candidate.the-variants.{Absent}
 use Rattle.laptop.specs.declared.Laptop.{Laptop}
 use Rattle.laptop.specs.declared.Wait.the-variants.{Nothing, Answer}
 use Rattle.laptop_laws.specs.Effects.{Call, effectOf, Kept, keptAfter}
-use Rattle.laptop_laws.specs.Given.{Given}
+use Rattle.laptop_laws.specs.Given.{ShortRun, AnyEntered, Given}
 use Rattle.laptop_laws.specs.Refusing.{RefusedAs}
 use Rattle.laptop_laws.specs.Reserved.{reservedClear, allReservedClear}
 use Rattle.laptop_laws.specs.WellFormed.{Lent, WellFormed}
@@ -76,14 +78,53 @@ use Rattle.stretches.proofs.Laws.{not-listed-exactly}
 use Rattle.demands.specs.Numbers.{AnyCall, numberGiven}
 use Rattle.demands.proofs.HeldWithin.{Wide, held-within, held-reads}
 use Rattle.demands.proofs.NeverFour.{never-four}
+use Rattle.port.specs.Sides.{isOthers, seen, steppedOn}
+use Rattle.port.specs.declared.Port.{Port}
+use Rattle.port.specs.declared.Side.{Side}
+use Rattle.port.specs.declared.Wait.the-variants.{Nothing as Port·Nothing}
+use Rattle.port_laws.specs.Effects.{Call as Port·Call}
+use Rattle.port_laws.specs.Effects.{message as Port·message}
+use Rattle.port_laws.specs.Effects.{next as Port·next}
+use Rattle.port_laws.specs.Effects.{effectOf as Port·effectOf}
+use Rattle.port_laws.specs.Effects.{Kept as Port·Kept}
+use Rattle.port_laws.specs.Effects.{keptAfter as Port·keptAfter}
+use Rattle.port_laws.specs.Effects.{isOwners, ofSide, effectIn, keptBy}
+use Rattle.port_laws.specs.Given.{Given as Port·Given}
+use Rattle.port_laws.specs.Leaving.{isOthersCall, isBlocked, isLeftOut, leaving, withoutOthers, NoneRefusedSeven}
+use Rattle.port_laws.specs.Refusing.{RefusedAs as Port·RefusedAs}
+use Rattle.port_laws.specs.Refusing.{leftByUnawaited}
+use Rattle.port_laws.specs.Reserved.{reservedClear as Port·reservedClear}
+use Rattle.port_laws.specs.Reserved.{allReservedClear as Port·allReservedClear}
+use Rattle.port_laws.specs.WellFormed.{WellFormedOn}
+use Rattle.port_laws.proofs.Given.{given-exactly as Port·given-exactly}
+use Rattle.port_laws.proofs.Given.{seven-exactly, thirteen-by-own}
+use Rattle.port_laws.proofs.Isolation.{ShareIs, share-is-a-laptops, SameShare, isolated, isolated-as-02}
+use Rattle.port_laws.proofs.Keeping.{keeps as Port·keeps}
+use Rattle.port_laws.proofs.OneCall.{AsLaptop, ChangesNothing, others-change-nothing, own-as-laptop, blocked-changes-nothing}
+use Rattle.port_laws.proofs.Refusing.{refusal-leaves as Port·refusal-leaves}
+use Rattle.port_laws.proofs.Refusing.{refusal-state as Port·refusal-state}
+use Rattle.port_laws.proofs.Refusing.{six-from-the-other-side}
+use Rattle.port_laws.proofs.Reserved.{effect-same as Port·effect-same}
+use Rattle.port_laws.proofs.Reserved.{kept-same as Port·kept-same}
+use Rattle.links.specs.Joint.{Joint, farEnd, systemSeen, keptIn, isMessage, isUnheard}
+use Rattle.links.specs.Joint.{Event as Joint·Event}
+use Rattle.links.specs.Joint.{calls as Joint·calls}
+use Rattle.links.specs.Joint.{arrive as Joint·arrive}
+use Rattle.links.specs.Joint.{step as Joint·step}
+use Rattle.links.specs.Joint.{run as Joint·run}
+use Rattle.links.specs.Share.{oneSidedEvent, isAway, share, exchangesOn, toRestOn}
+use Rattle.links.proofs.Faithful.{unheard-changes-nothing, arrival-is-a-message}
+use Rattle.links.proofs.OnSides.{begins-on, whole-on, exchanges-shared, old-or-whole-on, lowered-on, raised-on, replaced-on, counted-on, completed-on, ends-on, asks-on, never-bad-on, requests-on}
+use Rattle.links.proofs.Shares.{away-changes-nothing, near-is-01s}
+use Rattle.links.proofs.ToRest.{no-dead-end-on}
 use Rattle.link.specs.Cases.{cases, caseL, given, said}
-use Rattle.link.specs.Demand.{Meets, AtRest, Begins, apart, OldOrWhole, Lowers, Replaces, Counts, Completes, Raises, EndsBy, NeverBad, RequestTaken}
-use Rattle.link.specs.Exchanges.{HasAll, LossFree, NoDeadEnd, NextAsks}
+use Rattle.link.specs.Demand.{Meets, AtRest, Begins, whole, Holds, apart, OldOrWhole, Lowers, Replaces, Counts, Completes, Raises, EndsBy, NeverBad, RequestTaken}
+use Rattle.link.specs.Exchanges.{HasAll, exchange, times, LossFree, NoDeadEnd, NextAsks}
 use Rattle.link.specs.Freedoms.{runs}
 use Rattle.link.specs.Seeing.{differing}
 use Rattle.link.specs.Joined.{System, Event, calls}
 use Rattle.link.specs.Link.{step, run}
-use Rattle.link.specs.Needed.{needed, received, inAll}
+use Rattle.link.specs.Needed.{needed, received, inAll, onWay}
 use Rattle.link.specs.Permits.{Permits}
 use Rattle.link.proofs.Cases.{cases-hold}
 use Rattle.link.proofs.Freedoms.{runs-hold}
@@ -106,6 +147,14 @@ laptop-refusal-leaves = refusal-leaves
 pub laptop-refusal-state : (c : Call) (l : Laptop) (m : Memory) (out : List ℕ) → RefusedAs c l (effectOf c l m out .step)
 laptop-refusal-state = refusal-state
 
+-- The port, of which each side is such a laptop (02, R-4): the same, of what its side is lent; nothing of the other side changes.
+pub port-refusal-leaves : (c : Port·Call) (p : Port) (m : Memory) (out : List ℕ) → (Port·effectOf c p m out .step .refusal ≡ 0 → ⊥) →
+    (Port·effectOf c p m out .after ≡ m) × (Port·effectOf c p m out .buffer ≡ out)
+port-refusal-leaves = Port·refusal-leaves
+
+pub port-refusal-state : (c : Port·Call) (p : Port) (m : Memory) (out : List ℕ) → Port·RefusedAs c p (Port·effectOf c p m out .step)
+port-refusal-state = Port·refusal-state
+
 -- The dock: a refusal sends nothing, leaves the state alone and changes no lent byte.
 pub dock-refusal-leaves : (d : Dock) (x : Decision) (out : List ℕ) → (stepOf d x (length out) .refusal ≡ 0 → ⊥) →
     (stepOf d x (length out) ≡ refusedBy (stepOf d x (length out) .refusal) d) × (bufferOf x out ≡ out)
@@ -115,6 +164,15 @@ dock-refusal-leaves = Dock·refusal-leaves
 pub laptop-given-exactly : (c : Call) (l : Laptop) (m : Memory) (out : List ℕ) (number : ℕ) →
     (effectOf c l m out .step .refusal ≡ number) ↔ Given number c l m out
 laptop-given-exactly = given-exactly
+
+-- to the port, 7 exactly when either side waits,
+pub port-given-exactly : (c : Port·Call) (p : Port) (m : Memory) (out : List ℕ) (number : ℕ) →
+    (Port·effectOf c p m out .step .refusal ≡ number) ↔ Port·Given number c p m out
+port-given-exactly = Port·given-exactly
+
+pub port-seven-exactly : (c : Port·Call) (p : Port) (m : Memory) (out : List ℕ) → isOwners c ≡ true → (ShortRun m → ⊥) →
+    (Port·effectOf c p m out .step .refusal ≡ 7) ↔ (p .wait ≡ Port·Nothing → ⊥)
+port-seven-exactly = seven-exactly
 
 -- to the dock,
 pub dock-given-exactly : (c : Dock·Call) (d : Dock) (out : List ℕ) (number : ℕ) → (number ≡ 0 → ⊥) →
@@ -184,6 +242,14 @@ laptop-whatever-bit-5 = effect-same
 pub laptop-history-whatever-bit-5 : (history : List (Call × List ℕ)) (k : Kept) → keptAfter (allReservedClear history) k ≡ keptAfter history k
 laptop-history-whatever-bit-5 = kept-same
 
+-- at the port, on both sides,
+pub port-whatever-bit-5 : (c : Port·Call) (p : Port) (m : Memory) (out : List ℕ) → Port·effectOf (Port·reservedClear c) p m out ≡ Port·effectOf c p m out
+port-whatever-bit-5 = Port·effect-same
+
+pub port-history-whatever-bit-5 : (history : List (Port·Call × List ℕ)) (k : Port·Kept) →
+    Port·keptAfter (Port·allReservedClear history) k ≡ Port·keptAfter history k
+port-history-whatever-bit-5 = Port·kept-same
+
 -- and at the dock.
 pub dock-whatever-bit-5 : (c : Dock·Call) (d : Dock) (out : List ℕ) →
     (Dock·effectOf (Dock·reservedClear c) d out ≡ Dock·effectOf c d out) ×
@@ -242,6 +308,51 @@ reading-rebuilds = read-holds
 pub twelve-exactly : (bytes : List ℕ) (svid : ℕ) →
     (stretchIn (judgementOf bytes) svid .refusal ≡ 12) ↔ ((judgementOf bytes .refusal ≡ 0) × (isIn svid (svidsOf (judgementOf bytes .catalogue .entries)) ≡ false))
 twelve-exactly = not-listed-exactly
+
+-- THE CABLE HAS A CATALOGUE TOO (02, R-4). Isolation, for one call and any state: an event of the other side (its messages and calls, and each timer or protocol
+-- error that comes while it waits) leaves a side's laptop and memory as they were;
+pub others-change-nothing-here : (side : Side) (c : Port·Call) (out : List ℕ) (k : Port·Kept) → isOthersCall side c (k .port .wait) ≡ true →
+    ofSide side (keptBy c out k) ≡ ofSide side k
+others-change-nothing-here = others-change-nothing
+
+-- a call for the side that is refused 7 because the other waits changes nothing at all;
+pub seven-changes-nothing : (side : Side) (c : Port·Call) (out : List ℕ) (k : Port·Kept) → isOthersCall side c (k .port .wait) ≡ false →
+    isBlocked side c k ≡ true → ChangesNothing c out k
+seven-changes-nothing = blocked-changes-nothing
+
+-- any other event of the side is 01's on the laptop that it sees, in state, memory and answer.
+pub own-events-are-01s : (side : Side) (c : Port·Call) (out : List ℕ) (k : Port·Kept) → isLeftOut side c k ≡ false → AsLaptop side c out k
+own-events-are-01s = own-as-laptop
+
+-- For histories: with the first two left out, from any state in which the side has the same and the other does not wait, the side has the same in the end, its
+-- candidate, its held catalogue to the word, counts and entered modes, and got the same answers: refusals, messages sent, what policy is told.
+pub isolation : (side : Side) (history : List (Port·Call × List ℕ)) (k j : Port·Kept) → isOthers side (j .port .wait) ≡ false → ofSide side j ≡ ofSide side k →
+    SameShare side history k (leaving side history k) j
+isolation = isolated
+
+-- As 02 has it: while no call for the side is refused 7, nothing need be left out but the other side's events.
+pub isolation-as-02-has-it : (side : Side) (history : List (Port·Call × List ℕ)) (k j : Port·Kept) → isOthers side (j .port .wait) ≡ false →
+    ofSide side j ≡ ofSide side k → NoneRefusedSeven side history k → SameShare side history k (withoutOthers side history k) j
+isolation-as-02-has-it = isolated-as-02
+
+-- What is left is the history of a laptop of 01, which demand 1 and demand 2 speak of, with its answers.
+pub a-side-is-a-laptop : (side : Side) (history : List (Port·Call × List ℕ)) (k : Port·Kept) → ShareIs side history k
+a-side-is-a-laptop = share-is-a-laptops
+
+-- An answer from the side that is not awaited is 6: it drops that side's open list if it is an SVIDs ACK, and else leaves the state alone.
+pub six-from-the-side-not-awaited : (side : Side) (p : Port) (m : Memory) (bytes out : List ℕ) (x : Message) → isOthers side (p .wait) ≡ true →
+    (ShortRun m → ⊥) → readOutcome bytes ≡ accepted x → (x .head .kind ≡ req → ⊥) →
+    Port·effectOf (Port·message side bytes) p m out .step ≡ steppedOn side p (Laptop·refusedBy 6 (leftByUnawaited (x .head) (seen side p)))
+six-from-the-side-not-awaited = six-from-the-other-side
+
+-- 13 is by a side's own entered modes only.
+pub thirteen-by-its-own-modes : (side : Side) (p : Port) (m : Memory) (out : List ℕ) → (ShortRun m → ⊥) → p .wait ≡ Port·Nothing →
+    (Port·effectOf (Port·next side) p m out .step .refusal ≡ 13) ↔ AnyEntered m
+thirteen-by-its-own-modes = thirteen-by-own
+
+-- Every call keeps each side well-formed.
+pub each-side-stays-well-formed : (c : Port·Call) (out : List ℕ) (k : Port·Kept) → WellFormedOn k → WellFormedOn (keptBy c out k)
+each-side-stays-well-formed = Port·keeps
 
 -- DEMAND 3. It begins when, of a laptop and a dock at rest, a call sends Discover Identity.
 pub begins : (modesOf : ℕ → List ℕ) (s : System) → AtRest s → (out : List ℕ) (c : Call) →
@@ -347,3 +458,91 @@ module _ (modesOf : ℕ → List ℕ) (start : System) (meets : Meets modesOf (s
   -- What reaches the dock is never refused.
   pub requests-taken : RequestTaken there
   requests-taken = request-taken modesOf start meets begun events
+
+-- DEMAND 3 FOR EACH SIDE (02, R-4). Both ends of both links joined: the port, the partner's dock and the cable, each with data and modes of its own. What a side
+-- sees of it is a laptop, link and dock of 01; an event that is its own is 01's event there, and any other changes nothing of it.
+pub own-event-is-01s : (modesOf : Side → ℕ → List ℕ) (side : Side) (e : Joint·Event) (j : Joint) → isAway side e j ≡ false →
+    systemSeen side (Joint·step modesOf e j) ≡ step (modesOf side) (oneSidedEvent e) (systemSeen side j)
+own-event-is-01s = near-is-01s
+
+pub other-event-changes-nothing : (modesOf : Side → ℕ → List ℕ) (side : Side) (e : Joint·Event) (j : Joint) → isAway side e j ≡ true →
+    systemSeen side (Joint·step modesOf e j) ≡ systemSeen side j
+other-event-changes-nothing = away-changes-nothing
+
+-- The joint does what the port does: what it leaves out changes nothing of the port, and what arrives is the port's message on that side.
+pub left-out-changes-nothing : (c : Port·Call) (out : List ℕ) (j : Joint) → isMessage c ≡ false → isUnheard c j ≡ true → keptBy c out (keptIn j) ≡ keptIn j
+left-out-changes-nothing = unheard-changes-nothing
+
+pub arrival-is-the-ports : (modesOf : Side → ℕ → List ℕ) (side : Side) (j : Joint) (bytes : List ℕ) → onWay (farEnd side j .fate) ≡ some bytes →
+    Joint·step modesOf (Joint·arrive side) j .port ≡ effectIn (Port·message side bytes) [] (keptIn j) .step .port
+arrival-is-the-ports = arrival-is-a-message
+
+-- It begins when, of a side and its dock at rest, a call for the side sends Discover Identity.
+pub begins-on-a-side : (modesOf : Side → ℕ → List ℕ) (side : Side) (j : Joint) → AtRest (systemSeen side j) → (out : List ℕ) (c : Port·Call) →
+    isAway side (Joint·calls c out) j ≡ false → seen side (Joint·step modesOf (Joint·calls c out) j .port) .wait ≡ Answer identityRequest →
+    Begins (systemSeen side (Joint·step modesOf (Joint·calls c out) j))
+begins-on-a-side = begins-on
+
+-- Whatever the other side does meanwhile: from rest, as many exchanges of the side as its gathering needs answers, nothing lost, end with its dock's whole
+-- catalogue and n / 12 + 1 pages; and there is such a run where the other does not wait.
+pub whole-on-a-side : (modesOf : Side → ℕ → List ℕ) (side : Side) (j : Joint) → Meets (modesOf side) (farEnd side j .dock) → HasAll (modesOf side) (farEnd side j .dock) →
+    AtRest (systemSeen side j) → seen side (j .port) .candidate ≡ Absent → anyEntered (farEnd side j .memory .entered) ≡ false → (out : List ℕ) → 28 ≤ length out →
+    (events : List Joint·Event) → share modesOf side events j ≡ times (inAll (length (listed (farEnd side j .dock)))) (exchange out) →
+    Holds (whole (modesOf side) (farEnd side j .dock)) (systemSeen side (Joint·run modesOf events j)) ×
+    (0 < length (listed (farEnd side j .dock)) → systemSeen side (Joint·run modesOf events j) .laptop .pages ≡ length (listed (farEnd side j .dock)) / 12 + 1)
+whole-on-a-side = whole-on
+
+pub such-a-run-on-a-side : (modesOf : Side → ℕ → List ℕ) (side : Side) (j : Joint) → Meets (modesOf side) (farEnd side j .dock) → HasAll (modesOf side) (farEnd side j .dock) →
+    AtRest (systemSeen side j) → seen side (j .port) .candidate ≡ Absent → anyEntered (farEnd side j .memory .entered) ≡ false → (out : List ℕ) → 28 ≤ length out →
+    isOthers side (j .port .wait) ≡ false →
+    share modesOf side (exchangesOn side (inAll (length (listed (farEnd side j .dock)))) out) j ≡ times (inAll (length (listed (farEnd side j .dock)))) (exchange out)
+such-a-run-on-a-side = exchanges-shared
+
+module _ (modesOf : Side → ℕ → List ℕ) (side : Side) (start : Joint) (meets : Meets (modesOf side) (farEnd side start .dock)) (begun : Begins (systemSeen side start))
+    (events : List Joint·Event) where
+  -- where a run over both links has led the side, and what has come in its gathering: by its share, without the other side's events and the calls refused 7
+  -- because the other waits
+  abbrev thereOn : System
+  thereOn = systemSeen side (Joint·run modesOf events start)
+
+  abbrev cameOn : List Message
+  cameOn = received (modesOf side) (share modesOf side events start) (systemSeen side start) []
+
+  pub each-side-holds-old-or-whole : OldOrWhole (modesOf side) (systemSeen side start) thereOn
+  each-side-holds-old-or-whole = old-or-whole-on modesOf side start meets begun events
+
+  pub each-side-lowered-by-a-new-answer : (e : Event) → Lowers (modesOf side) (farEnd side start .dock) e thereOn cameOn
+  each-side-lowered-by-a-new-answer = lowered-on modesOf side start meets begun events
+
+  pub each-side-raised-by-identity-or-an-end : (e : Event) → Raises (modesOf side) (farEnd side start .dock) e thereOn cameOn
+  each-side-raised-by-identity-or-an-end = raised-on modesOf side start meets begun events
+
+  pub each-side-replaced-by-the-last-answer : (e : Event) → Replaces (modesOf side) (farEnd side start .dock) e thereOn cameOn
+  each-side-replaced-by-the-last-answer = replaced-on modesOf side start meets begun events
+
+  pub each-side-pages-add-up : Counts (modesOf side) (farEnd side start .dock) thereOn cameOn
+  each-side-pages-add-up = counted-on modesOf side start meets begun events
+
+  pub each-side-pages-add-up-in-the-end : (e : Event) → Completes (modesOf side) (farEnd side start .dock) e thereOn cameOn
+  each-side-pages-add-up-in-the-end = completed-on modesOf side start meets begun events
+
+  pub each-side-ends-unfinished-only-by : (e : Event) → EndsBy (modesOf side) (farEnd side start .dock) e thereOn cameOn
+  each-side-ends-unfinished-only-by = ends-on modesOf side start meets begun events
+
+  pub each-side-asks-for-what-is-needed : (out : List ℕ) → 28 ≤ length out → thereOn .laptop .wait ≡ Nothing → anyEntered (thereOn .memory .entered) ≡ false →
+      NextAsks (modesOf side) (farEnd side start .dock) thereOn cameOn out
+  each-side-asks-for-what-is-needed = asks-on modesOf side start meets begun events
+
+  -- no dead end: a wait of either side can be ended, and a further run leads to the side's dock's whole catalogue
+  pub no-side-in-a-dead-end : HasAll (modesOf side) (farEnd side start .dock) → (out : List ℕ) → 28 ≤ length out →
+      anyEntered (farEnd side (Joint·run modesOf events start) .memory .entered) ≡ false →
+      Holds (whole (modesOf side) (farEnd side start .dock))
+      (systemSeen side (Joint·run modesOf (toRestOn side (Joint·run modesOf events start .port .wait) ++ exchangesOn side (inAll (length (listed (farEnd side start .dock)))) out)
+      (Joint·run modesOf events start)))
+  no-side-in-a-dead-end all = no-dead-end-on modesOf side start meets all begun events
+
+  pub each-side-never-refused-otherwise : (e : Event) → NeverBad e thereOn
+  each-side-never-refused-otherwise = never-bad-on modesOf side start meets begun events
+
+  pub each-side-requests-taken : RequestTaken thereOn
+  each-side-requests-taken = requests-on modesOf side start meets begun events

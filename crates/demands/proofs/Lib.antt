@@ -4,4 +4,5 @@ pub mod HeldWithin
 pub mod LaptopTight
 pub mod NeverFour
 pub mod PartsTight
+pub mod PortTight
 pub mod Written

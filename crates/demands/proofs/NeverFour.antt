@@ -21,6 +21,7 @@ use Rattle.dock.specs.declared.Dock.{Dock}
 use Rattle.dock.specs.declared.Step.{Step as Dock·Step}
 use Rattle.dock_laws.proofs.Given.{never-four as Dock·never-four}
 use Rattle.laptop_laws.proofs.Given.{never-four as Laptop·never-four}
+use Rattle.port_laws.proofs.Given.{never-four as Port·never-four}
 use Rattle.laptop_laws.proofs.CatalogueGiven.{catalogue-never-four}
 use Rattle.laptop_laws.proofs.MessageGiven.{identity-number, mode-number}
 use Rattle.laptop.specs.Calls.{sends, stepOf, shortRuns, isAwaiting}
@@ -39,7 +40,7 @@ use Rattle.rebuilding.specs.Rebuilding.{readAs}
 use Rattle.rebuilding.proofs.Laws.{only-these as Reading·only-these}
 use Rattle.stretches.specs.Stretches.{stretchIn}
 use Rattle.stretches.proofs.Laws.{only-these as Stretch·only-these}
-use Rattle.demands.specs.Numbers.{AnyCall, reads, writes, ofDock, ofLaptop, writesCatalogue, tellsFault, judges, readsCatalogue, findsStretch, sendsAnswer, refusesOwner, asksFor, hearsIdentity, hearsSvids, hearsModes, hearsMode, numberGiven}
+use Rattle.demands.specs.Numbers.{AnyCall, reads, writes, ofDock, ofLaptop, ofPort, writesCatalogue, tellsFault, judges, readsCatalogue, findsStretch, sendsAnswer, refusesOwner, asksFor, hearsIdentity, hearsSvids, hearsModes, hearsMode, numberGiven}
 
 read-not-4 : (o : Outcome) → (o ≡ refused 4 → ⊥) → readNumber (shown o .outcome) ≡ 4 → ⊥
 unfolding shown
@@ -118,6 +119,7 @@ never-four (reads bytes) = read-not-4 (readOutcome bytes) (read-never-4 bytes)
 never-four (writes m out) = write-never-4 m (length out)
 never-four (ofDock c d out) = Dock·never-four c d out
 never-four (ofLaptop c l m out) = Laptop·never-four c l m out
+never-four (ofPort c p m out) = Port·never-four c p m out
 never-four (writesCatalogue held words out) = catalogue-never-four held words (length out)
 never-four (tellsFault found) = found-not-4 found
 never-four (judges bytes) = file-not-4 (judgementOf bytes .refusal) (only-these bytes)

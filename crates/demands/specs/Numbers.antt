@@ -17,6 +17,9 @@ use Rattle.laptop.specs.Calls.{stepOf}
 use Rattle.laptop.specs.State.{Memory}
 use Rattle.laptop.specs.declared.Laptop.{Laptop}
 use Rattle.laptop_laws.specs.Effects.{Call, effectOf}
+use Rattle.port.specs.declared.Port.{Port}
+use Rattle.port_laws.specs.Effects.{Call as Port·Call}
+use Rattle.port_laws.specs.Effects.{effectOf as Port·effectOf}
 use Rattle.owner.specs.Owner.{ownerRefusal, asks}
 use Rattle.gathering.specs.Gathering.{hearIdentity, hearSvids}
 use Rattle.answers.specs.Answers.{hearModes, hearMode}
@@ -31,9 +34,10 @@ pub data AnyCall : Type 0 where
   -- a message's bytes; a message, and the buffer
   reads : List ℕ → AnyCall
   writes : Message → List ℕ → AnyCall
-  -- a call of the dock or of the laptop, the state, what is lent, and the buffer
+  -- a call of the dock, of a laptop of 01 or of the port, the state, what is lent, and the buffer
   ofDock : Dock·Call → Dock → List ℕ → AnyCall
   ofLaptop : Call → Laptop → Memory → List ℕ → AnyCall
+  ofPort : Port·Call → Port → Memory → List ℕ → AnyCall
   -- the held catalogue, the words of its run, and the buffer
   writesCatalogue : HeldCatalogue → ℕ → List ℕ → AnyCall
   -- what was found where a record is to stand; a file's bytes; and with the words of the run; and with an SVID
@@ -56,6 +60,7 @@ numberGiven (reads bytes) = readNumber (shown (readOutcome bytes) .outcome)
 numberGiven (writes m out) = writeRefusal m (length out)
 numberGiven (ofDock c d out) = Dock·effectOf c d out .refusal
 numberGiven (ofLaptop c l m out) = effectOf c l m out .step .refusal
+numberGiven (ofPort c p m out) = Port·effectOf c p m out .step .refusal
 numberGiven (writesCatalogue held words out) = catalogueRefusal held words (length out)
 numberGiven (tellsFault found) = foundNumber found
 numberGiven (judges bytes) = judgementOf bytes .refusal

@@ -16,13 +16,12 @@ PUBLIC = re.compile(r"^pub (?:use \w+::|fn )([a-z]\w*)", re.MULTILINE)
 PARTS = {
     f"{crate}::{name}"
     for crate, names in (
-        ("laptop", "held_list place_of number_at modes_number six_bits named marked unmarked refused accepted ended dropped short_runs"),
-        ("owner", "owner_refusal ask"),
+        ("port", "seen"),
         ("dock", "refused accepted standing_at send send_bare"),
     )
     for name in names.split()
 }
-ENDS = ("dock", "loading", "receiving", "answering", "confirming", "laptop", "timers", "owner", "modes", "hearing", "catalogue")
+ENDS = ("dock", "loading", "receiving", "answering", "confirming", "port")
 
 
 def sources(root, crate):

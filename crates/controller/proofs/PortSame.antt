@@ -120,7 +120,7 @@ port-parts a b =
     let waits : length (waitNumbers (a .wait)) ≡ length (waitNumbers (b .wait)) = wait-length (a .wait) ∙ sym (wait-length (b .wait)) in
     let owns : length (ownNumbers (a .partner)) ≡ length (ownNumbers (b .partner)) = own-length (a .partner) ∙ sym (own-length (b .partner)) in
     let fronts : length (waitNumbers (a .wait) ++ ownNumbers (a .partner)) ≡ length (waitNumbers (b .wait) ++ ownNumbers (b .partner)) =
-    rw (length-append, length-append) (omega (arith, waits, owns)) in
+    simp length-append (omega (arith, waits, owns)) in
     same-behind (waitNumbers (a .wait) ++ ownNumbers (a .partner)) (waitNumbers (b .wait) ++ ownNumbers (b .partner)) _ _ fronts ∙
     ap (λ (t : Bool). t && sameList (ownNumbers (a .cable)) (ownNumbers (b .cable))) (same-behind (waitNumbers (a .wait)) (waitNumbers (b .wait)) _ _ waits)
 

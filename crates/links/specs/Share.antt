@@ -51,10 +51,7 @@ isAway side (arrive s) j = not (sameSide s side)
 isAway side (sent s) j = not (sameSide s side)
 isAway side (failed s) j = not (sameSide s side)
 
--- the side's share of one event, and of a run
-unfoldable pub shareOf : Side → Event → Joint → List Link·Event
-shareOf side e j = cond (isAway side e j) [] (oneSidedEvent e ∷ [])
-
+-- the side's share of a run
 unfoldable pub share : (Side → ℕ → List ℕ) → Side → List Event → Joint → List Link·Event
 share modesOf side [] j = []
 share modesOf side (e ∷ events) j =

@@ -82,6 +82,8 @@ use Rattle.port.specs.Sides.{isOthers, seen, steppedOn}
 use Rattle.port.specs.declared.Port.{Port}
 use Rattle.port.specs.declared.Side.{Side}
 use Rattle.port.specs.declared.Wait.the-variants.{Nothing as Port·Nothing}
+use Rattle.port_laws.specs.Cases.{given as Port·given}
+use Rattle.port_laws.specs.Cases.{said as Port·said}
 use Rattle.port_laws.specs.Effects.{Call as Port·Call}
 use Rattle.port_laws.specs.Effects.{message as Port·message}
 use Rattle.port_laws.specs.Effects.{next as Port·next}
@@ -96,6 +98,7 @@ use Rattle.port_laws.specs.Refusing.{leftByUnawaited}
 use Rattle.port_laws.specs.Reserved.{reservedClear as Port·reservedClear}
 use Rattle.port_laws.specs.Reserved.{allReservedClear as Port·allReservedClear}
 use Rattle.port_laws.specs.WellFormed.{WellFormedOn}
+use Rattle.port_laws.proofs.Cases.{cases-hold as Port·cases-hold}
 use Rattle.port_laws.proofs.Given.{given-exactly as Port·given-exactly}
 use Rattle.port_laws.proofs.Given.{seven-exactly, thirteen-by-own}
 use Rattle.port_laws.proofs.Isolation.{ShareIs, share-is-a-laptops, SameShare, isolated, isolated-as-02}
@@ -349,6 +352,10 @@ six-from-the-side-not-awaited = six-from-the-other-side
 pub thirteen-by-its-own-modes : (side : Side) (p : Port) (m : Memory) (out : List ℕ) → (ShortRun m → ⊥) → p .wait ≡ Port·Nothing →
     (Port·effectOf (Port·next side) p m out .step .refusal ≡ 13) ↔ AnyEntered m
 thirteen-by-its-own-modes = thirteen-by-own
+
+-- Histories of both sides, for 02's sentences on them, give what is written beside them.
+pub every-history-of-both-sides : Port·given ≡ Port·said
+every-history-of-both-sides = Port·cases-hold
 
 -- Every call keeps each side well-formed.
 pub each-side-stays-well-formed : (c : Port·Call) (out : List ℕ) (k : Port·Kept) → WellFormedOn k → WellFormedOn (keptBy c out k)

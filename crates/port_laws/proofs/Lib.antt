@@ -1,4 +1,5 @@
 -- What the two sides keep from each other, a file for each topic.
+pub mod Cases
 pub mod Given
 pub mod Isolation
 pub mod Keeping

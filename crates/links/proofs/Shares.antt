@@ -16,7 +16,7 @@ use Rattle.port.specs.declared.Side.the-variants.{Partner, Cable}
 use Rattle.port.specs.declared.Wait.{Wait}
 use Rattle.port_laws.specs.Effects.{Call, message, next, startOver, drop, enter, exit, timer, protocolError, oneSided, concerns, Effect, memoryOf, effectIn}
 use Rattle.port_laws.specs.Leaving.{isOthersCall, isBlocked, isLeftOut}
-use Rattle.port_laws.proofs.OneCall.{put-on, kept-in, own-side, concerns-other, own-seen}
+use Rattle.port_laws.proofs.OneCall.{put-on, kept-in, own-side, concerns-other, own-seen, not-same, parts}
 use Rattle.port_laws.proofs.Seeing.{message-idle}
 use Rattle.port_laws.proofs.Sides.{other-unchanged, seen-put, seen-put-idle, idle-seen, Waits, own-waits, other-waits, none-waits, waits}
 use Rattle.link.specs.Joined.{Fate, gone, coming, confirmed, came, System}
@@ -94,10 +94,6 @@ module _ (modesOf : ℕ → List ℕ) where
   link-other : (s side : Side) (e : Link·Event) (j : Joint) → sameSide s side ≡ false → systemSeen side (onLink modesOf s e j) ≡ systemSeen side j
   link-other s side e j f = system-other s side _ _ _ j f refl
 
-not-same : (t : Bool) → not t ≡ true → t ≡ false
-not-same true e = sym e
-not-same false e = refl
-
 waiter : (side : Side) (w : Wait) → isOthers side w ≡ false → not (isWaiting w) ≡ false → waitingSide w ≡ side
 waiter side w e f = go (waits side w)
   where
@@ -121,6 +117,10 @@ pub memory-in : (side : Side) (j : Joint) → memoryOf side (keptIn j) ≡ farEn
 memory-in Partner j = refl
 memory-in Cable j = refl
 
+or-true : (t : Bool) → t || true ≡ true
+or-true true = refl
+or-true false = refl
+
 -- a call of the port
 module _ (side : Side) (c : Call) (out : List ℕ) (j : Joint) where
   abbrev w : Wait
@@ -141,20 +141,12 @@ module _ (side : Side) (c : Call) (out : List ℕ) (j : Joint) where
   call-unheard e f = go (isIdle c w) refl
     where
       go : (t : Bool) → isIdle c w ≡ t → isMessage c || (isIdle c w || isBlocked (concerns c w) c (keptIn j)) ≡ true
-      go true g = ap (λ (t : Bool). isMessage c || (t || isBlocked (concerns c w) c (keptIn j))) g ∙ last (isMessage c)
-        where
-          last : (t : Bool) → t || true ≡ true
-          last true = refl
-          last false = refl
+      go true g = ap (λ (t : Bool). isMessage c || (t || isBlocked (concerns c w) c (keptIn j))) g ∙ or-true (isMessage c)
       go false g =
           ap (λ (t : Bool). isMessage c || (t || isBlocked (concerns c w) c (keptIn j))) g ∙
           ap (λ (s : Side). isMessage c || isBlocked s c (keptIn j)) (own-concerns side c w e g) ∙
-          ap (λ (t : Bool). isMessage c || t) (blocked (isBlocked side c (keptIn j)) (isIdle c w) f g) ∙ last (isMessage c)
+          ap (λ (t : Bool). isMessage c || t) (blocked (isBlocked side c (keptIn j)) (isIdle c w) f g) ∙ or-true (isMessage c)
         where
-          last : (t : Bool) → t || true ≡ true
-          last true = refl
-          last false = refl
-
           blocked : (b i : Bool) → b || i ≡ true → i ≡ false → b ≡ true
           blocked true i x y = refl
           blocked false true x y = absurd (false≢true (sym y))
@@ -186,21 +178,17 @@ module _ (side : Side) (c : Call) (out : List ℕ) (j : Joint) where
       ap (λ (x : Laptop·Effect). afterCall x (systemSeen side j)) (own-seen side c out (keptIn j) kept at) ∙
       ap (λ (m : Memory). afterCall (laptopDoes (oneSided c) (seen side (j .port)) m out) (systemSeen side j)) (memory-in side j)
 
-both : (a b : Bool) → a || b ≡ false → (a ≡ false) × (b ≡ false)
-both true b e = absurd (false≢true (sym e))
-both false b e = (refl, e)
-
 call-own : (side : Side) (c : Call) (out : List ℕ) (j : Joint) → isAway side (calls c out) j ≡ false →
     systemSeen side (called c out j) ≡ Link·called (oneSided c) out (systemSeen side j)
 unfolding called Link·called
 call-own side (message s bytes) out j e = refl
-call-own side (next s) out j e = let f = both _ (isIdle (next s) (j .port .wait)) e in call-heard side (next s) out j refl (f .0) (f .1)
-call-own side (startOver s) out j e = let f = both _ (isIdle (startOver s) (j .port .wait)) e in call-heard side (startOver s) out j refl (f .0) (f .1)
-call-own side (drop s) out j e = let f = both _ (isIdle (drop s) (j .port .wait)) e in call-heard side (drop s) out j refl (f .0) (f .1)
-call-own side (enter s svid position) out j e = let f = both _ (isIdle (enter s svid position) (j .port .wait)) e in call-heard side (enter s svid position) out j refl (f .0) (f .1)
-call-own side (exit s svid position) out j e = let f = both _ (isIdle (exit s svid position) (j .port .wait)) e in call-heard side (exit s svid position) out j refl (f .0) (f .1)
-call-own side (timer first last) out j e = let f = both _ (isIdle (timer first last) (j .port .wait)) e in call-heard side (timer first last) out j refl (f .0) (f .1)
-call-own side protocolError out j e = let f = both _ (isIdle protocolError (j .port .wait)) e in call-heard side protocolError out j refl (f .0) (f .1)
+call-own side (next s) out j e = let f = parts _ (isIdle (next s) (j .port .wait)) e in call-heard side (next s) out j refl (f .0) (f .1)
+call-own side (startOver s) out j e = let f = parts _ (isIdle (startOver s) (j .port .wait)) e in call-heard side (startOver s) out j refl (f .0) (f .1)
+call-own side (drop s) out j e = let f = parts _ (isIdle (drop s) (j .port .wait)) e in call-heard side (drop s) out j refl (f .0) (f .1)
+call-own side (enter s svid position) out j e = let f = parts _ (isIdle (enter s svid position) (j .port .wait)) e in call-heard side (enter s svid position) out j refl (f .0) (f .1)
+call-own side (exit s svid position) out j e = let f = parts _ (isIdle (exit s svid position) (j .port .wait)) e in call-heard side (exit s svid position) out j refl (f .0) (f .1)
+call-own side (timer first last) out j e = let f = parts _ (isIdle (timer first last) (j .port .wait)) e in call-heard side (timer first last) out j refl (f .0) (f .1)
+call-own side protocolError out j e = let f = parts _ (isIdle protocolError (j .port .wait)) e in call-heard side protocolError out j refl (f .0) (f .1)
 
 -- ONE EVENT. It is away and nothing of the side changes, or it is 01's to the side
 module _ (modesOf : Side → ℕ → List ℕ) (side : Side) where

@@ -63,7 +63,7 @@ put-on (exit s svid position) p m out = (_, refl)
 put-on (timer first last) p m out = (_, refl)
 put-on protocolError p m out = (_, refl)
 
-not-same : (t : Bool) → not t ≡ true → t ≡ false
+pub not-same : (t : Bool) → not t ≡ true → t ≡ false
 not-same true e = sym e
 not-same false e = refl
 
@@ -205,7 +205,7 @@ own-side s side e = same-side s side (go (sameSide s side) e)
     go true e = refl
     go false e = sym e
 
-parts : (a b : Bool) → a || b ≡ false → (a ≡ false) × (b ≡ false)
+pub parts : (a b : Bool) → a || b ≡ false → (a ≡ false) × (b ≡ false)
 parts true b e = absurd (false≢true (sym e))
 parts false b e = (refl, e)
 

@@ -12,7 +12,7 @@ use Rattle.laws.specs.Bounded.{Below}
 use Rattle.laws.specs.Lines.{firstAt}
 use Rattle.laws.specs.Padded.{padded}
 use Rattle.laws.proofs.Lines.{first-line, first-at}
-use Rattle.messages.specs.Layout.{headOf, Message, Representable, messageBytes, withOurVersion, withReservedClear}
+use Rattle.messages.specs.Layout.{headOf, Message, Representable, messageBytes, messageLength, withVersion, withReservedClear}
 use Rattle.messages.specs.Table.{rowOf, countsOf, shape, allowed, firstHead}
 use Rattle.messages.specs.Reading.{headerIn, readLines, readRefusal, messageIn, Outcome, accepted, refused, outcome, readOutcome, shown}
 use Rattle.messages.specs.Writing.{wellShaped, writeRefusal, written, Written}
@@ -20,15 +20,16 @@ use Rattle.messages.specs.declared.ReadAs.the-variants.{Refused}
 use Rattle.messages.specs.declared.ReadAs.the-variants.{Message as ReadAs·Message}
 use Rattle.messages.specs.declared.Head.{Head}
 use Rattle.messages.specs.declared.Reading.{Reading}
+use Rattle.messages.specs.declared.edition.Edition.{Edition}
 use Rattle.messages.proofs.Refusals.{read-refused, outcome-refused}
 use Rattle.messages.proofs.RoundTrip.{read-bytes, bytes-read, accepted-shape, accepted-fits, message-bytes}
 use Rattle.messages.proofs.Rule.{shape-allowed, shape-least, shape-count, pair-has}
-use Rattle.messages.proofs.Stores.{write-whole}
+use Rattle.messages.proofs.Stores.{length-message, write-whole}
 
 -- writing is refused 5 exactly for a wrong shape, 11 exactly for a short buffer under a good one, and by no other number
 pub write-refused-5 : (m : Message) (room : ℕ) → (writeRefusal m room ≡ 5) ↔ (wellShaped m ≡ false)
 unfolding writeRefusal
-write-refused-5 m room = go (wellShaped m) (ltb room (length (messageBytes m)))
+write-refused-5 m room = go (wellShaped m) (ltb room (messageLength m))
   where
     go : (s t : Bool) → (_≡_ {A = ℕ} (cond (not s) 5 (cond t 11 0)) 5) ↔ (s ≡ false)
     go true true = (λ e. absurd (omega arith), λ e. absurd (false≢true (sym e)))
@@ -36,9 +37,9 @@ write-refused-5 m room = go (wellShaped m) (ltb room (length (messageBytes m)))
     go false t = (λ e. refl, λ e. refl)
 
 pub write-refused-11 : (m : Message) (room : ℕ) →
-    (writeRefusal m room ≡ 11) ↔ ((wellShaped m ≡ true) × (ltb room (length (messageBytes m)) ≡ true))
+    (writeRefusal m room ≡ 11) ↔ ((wellShaped m ≡ true) × (ltb room (messageLength m) ≡ true))
 unfolding writeRefusal
-write-refused-11 m room = go (wellShaped m) (ltb room (length (messageBytes m)))
+write-refused-11 m room = go (wellShaped m) (ltb room (messageLength m))
   where
     go : (s t : Bool) → (_≡_ {A = ℕ} (cond (not s) 5 (cond t 11 0)) 11) ↔ ((s ≡ true) × (t ≡ true))
     go true true = (λ e. (refl, refl), λ e. refl)
@@ -46,43 +47,44 @@ write-refused-11 m room = go (wellShaped m) (ltb room (length (messageBytes m)))
     go false t = (λ e. absurd (omega arith), λ e. absurd (false≢true (e .0)))
 
 pub write-accepted : (m : Message) (room : ℕ) →
-    (writeRefusal m room ≡ 0) ↔ ((wellShaped m ≡ true) × (ltb room (length (messageBytes m)) ≡ false))
+    (writeRefusal m room ≡ 0) ↔ ((wellShaped m ≡ true) × (ltb room (messageLength m) ≡ false))
 unfolding writeRefusal
-write-accepted m room = go (wellShaped m) (ltb room (length (messageBytes m)))
+write-accepted m room = go (wellShaped m) (ltb room (messageLength m))
   where
     go : (s t : Bool) → (_≡_ {A = ℕ} (cond (not s) 5 (cond t 11 0)) 0) ↔ ((s ≡ true) × (t ≡ false))
     go true true = (λ e. absurd (omega arith), λ e. absurd (false≢true (sym (e .1))))
     go true false = (λ e. (refl, refl), λ e. refl)
     go false t = (λ e. absurd (omega arith), λ e. absurd (false≢true (e .0)))
 
--- what was written is read again
-pub read-write : (m : Message) → Representable m → (out : List ℕ) → writeRefusal m (length out) ≡ 0 →
-    readOutcome (take (length (messageBytes m)) (written m out)) ≡ accepted m
+-- what was written at an edition is read again, with it
+pub read-write : (at : Edition) (m : Message) → Representable m → (out : List ℕ) → writeRefusal m (length out) ≡ 0 →
+    readOutcome (take (messageLength m) (written at m out)) ≡ accepted at m
 unfolding written
-read-write m fits out e =
-    let kept : take (length (messageBytes m)) (written m out) ≡ messageBytes m =
-    rw e (take-append-seam (messageBytes m) (drop (length (messageBytes m)) out)) in
-    ap readOutcome kept ∙ read-bytes m fits (write-accepted m (length out) .0 e .0)
+read-write at m fits out e =
+    let kept : take (messageLength m) (written at m out) ≡ messageBytes at m =
+    rw e (ap (λ (n : ℕ). take n (messageBytes at m ++ drop (messageLength m) out)) (sym (length-message at m)) ∙
+    take-append-seam (messageBytes at m) (drop (messageLength m) out)) in
+    ap readOutcome kept ∙ read-bytes at m fits (write-accepted m (length out) .0 e .0)
 
--- what was read is written again, with our version in the header and bit 5 cleared
-pub write-read : (b : List ℕ) → Below 256 b → (m : Message) → readOutcome b ≡ accepted m → (out : List ℕ) → length out ≡ length b →
-    Written m out 0 (withOurVersion (withReservedClear b))
-unfolding withOurVersion withReservedClear
-write-read b below m e out room =
-    let bytes : messageBytes m ≡ withOurVersion (withReservedClear b) = bytes-read b m below e in
-    let size : length (messageBytes m) ≡ length out = ap length bytes ∙ length-set (withReservedClear b) 1 _ ∙ length-set b 0 _ ∙ sym room in
-    let rest : drop (length (messageBytes m)) out ≡ [] = ap (λ (n : ℕ). drop n out) size ∙ drop-length out in
-    write-whole m out (accepted-shape b m e) (omega (arith, size)) (withOurVersion (withReservedClear b))
-    (sym bytes ∙ sym (append-nil (messageBytes m)) ∙ ap (λ (l : List ℕ). messageBytes m ++ l) (sym rest))
+-- what was read is written again at its own edition, with bit 5 cleared and the version bits in that edition's form
+pub write-read : (b : List ℕ) → Below 256 b → (at : Edition) (m : Message) → readOutcome b ≡ accepted at m → (out : List ℕ) → length out ≡ length b →
+    Written at m out 0 (withVersion at (withReservedClear b))
+unfolding withVersion withReservedClear
+write-read b below at m e out room =
+    let bytes : messageBytes at m ≡ withVersion at (withReservedClear b) = bytes-read b at m below e in
+    let size : messageLength m ≡ length out = sym (length-message at m) ∙ ap length bytes ∙ length-set (withReservedClear b) 1 _ ∙ length-set b 0 _ ∙ sym room in
+    let rest : drop (messageLength m) out ≡ [] = ap (λ (n : ℕ). drop n out) size ∙ drop-length out in
+    write-whole at m out (accepted-shape b at m e) (omega (arith, size)) (withVersion at (withReservedClear b))
+    (sym bytes ∙ sym (append-nil (messageBytes at m)) ∙ ap (λ (l : List ℕ). messageBytes at m ++ l) (sym rest))
 
 -- what was read has a good shape and fits the layout's widths, and what is written are bytes
-pub read-shape : (b : List ℕ) (m : Message) → readOutcome b ≡ accepted m → wellShaped m ≡ true
-read-shape b m e = accepted-shape b m e
+pub read-shape : (b : List ℕ) (at : Edition) (m : Message) → readOutcome b ≡ accepted at m → wellShaped m ≡ true
+read-shape b at m e = accepted-shape b at m e
 
 -- at most six objects stand behind the header
-pub read-count : (b : List ℕ) (m : Message) → readOutcome b ≡ accepted m → length (m .objects) ≤ 6
+pub read-count : (b : List ℕ) (at : Edition) (m : Message) → readOutcome b ≡ accepted at m → length (m .objects) ≤ 6
 unfolding wellShaped
-read-count b m e = omega (arith, shape-count (m .head) (length (m .objects) + 1) (accepted-shape b m e) .1)
+read-count b at m e = omega (arith, shape-count (m .head) (length (m .objects) + 1) (accepted-shape b at m e) .1)
 
 -- an Identity ACK has three objects or more behind the header, a Modes ACK one or more
 ack-least : (m : Message) (command : ℕ) → wellShaped m ≡ true → m .head .command ≡ command → m .head .kind ≡ 1 →
@@ -101,34 +103,35 @@ pub modes-least : (m : Message) → wellShaped m ≡ true → m .head .command �
 unfolding countsOf rowOf
 modes-least m good ec ek = omega (arith, ack-least m 3 good ec ek)
 
-pub read-fits : (b : List ℕ) (m : Message) → Below 256 b → readOutcome b ≡ accepted m → Representable m
-read-fits b m below e = accepted-fits b m below e
+pub read-fits : (b : List ℕ) (at : Edition) (m : Message) → Below 256 b → readOutcome b ≡ accepted at m → Representable m
+read-fits b at m below e = accepted-fits b at m below e
 
-pub write-fits : (m : Message) → Below 256 (messageBytes m)
-write-fits m = message-bytes m
+pub write-fits : (at : Edition) (m : Message) → Below 256 (messageBytes at m)
+write-fits at m = message-bytes at m
 
 -- a result that a promise allows is the only one
 pub read-only : (b : List ℕ) (r r′ : Reading) → r ≡ shown (readOutcome b) → r′ ≡ shown (readOutcome b) → r ≡ r′
 read-only b r r′ e e′ = e ∙ sym e′
 
-pub write-only : (m : Message) (out : List ℕ) (number number′ : ℕ) (after after′ : List ℕ) →
-    Written m out number after → Written m out number′ after′ → (number ≡ number′) × (after ≡ after′)
-write-only m out number number′ after after′ w w′ =
+pub write-only : (at : Edition) (m : Message) (out : List ℕ) (number number′ : ℕ) (after after′ : List ℕ) →
+    Written at m out number after → Written at m out number′ after′ → (number ≡ number′) × (after ≡ after′)
+write-only at m out number number′ after after′ w w′ =
     (w .number-is ∙ sym (w′ .number-is), w .buffer-is ∙ sym (w′ .buffer-is))
 
 -- for whoever takes what was read apart: each case of it is one of the outcome
 pub shown-refused : (o : Outcome) (r : Reading) (number : ℕ) → r ≡ shown o → r .outcome ≡ Refused number → o ≡ refused number
 unfolding shown
-shown-refused (accepted m) r number e a = absurd (let o : _≡_ {A = ℕ} 0 1 = cc (ap (λ (s : Reading). s .outcome) e) in omega arith)
+shown-refused (accepted at m) r number e a = absurd (let o : _≡_ {A = ℕ} 0 1 = cc (ap (λ (s : Reading). s .outcome) e) in omega arith)
 shown-refused (refused n) r number e a = cc (ap (λ (s : Reading). s .outcome) e)
 
-pub shown-message : (o : Outcome) (r : Reading) (h : Head) (count : ℕ) → r ≡ shown o → r .outcome ≡ ReadAs·Message h count →
-    (m : Message) × (o ≡ accepted m) × (m .head ≡ h) × (length (m .objects) ≡ count) × (padded (m .objects) ≡ r .objects)
+pub shown-message : (o : Outcome) (r : Reading) (at : Edition) (h : Head) (count : ℕ) → r ≡ shown o → r .outcome ≡ ReadAs·Message at h count →
+    (m : Message) × (o ≡ accepted at m) × (m .head ≡ h) × (length (m .objects) ≡ count) × (padded (m .objects) ≡ r .objects)
 unfolding shown
-shown-message (accepted m) r h count e a =
-    let same : ReadAs·Message (m .head) (length (m .objects)) ≡ ReadAs·Message h count = sym (ap (λ (s : Reading). s .outcome) e) ∙ a in
-    (m, refl, cc, cc, ap (λ (s : Reading). s .objects) (sym e))
-shown-message (refused n) r h count e a = absurd (let o : _≡_ {A = ℕ} 0 1 = cc (ap (λ (s : Reading). s .outcome) e) in omega arith)
+shown-message (accepted e m) r at h count is a =
+    let same : ReadAs·Message e (m .head) (length (m .objects)) ≡ ReadAs·Message at h count = sym (ap (λ (s : Reading). s .outcome) is) ∙ a in
+    let edition : e ≡ at = cc in
+    (m, ap (λ (x : Edition). accepted x m) edition, cc, cc, ap (λ (s : Reading). s .objects) (sym is))
+shown-message (refused n) r at h count is a = absurd (let o : _≡_ {A = ℕ} 0 1 = cc (ap (λ (s : Reading). s .outcome) is) in omega arith)
 
 -- reading is refused by a number exactly when that line of the table is the first that holds; there are lines 1 to 5, of which 4 is withdrawn
 pub read-refused-by : (b : List ℕ) (k : ℕ) → (readOutcome b ≡ refused (1 + k)) ↔ (firstAt (readLines b) k ≡ true)

@@ -1,4 +1,5 @@
 -- Laws on the definitions of specs/, a file for each topic.
+pub mod Editions
 pub mod Header
 pub mod Laws
 pub mod Objects

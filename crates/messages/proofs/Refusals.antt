@@ -10,12 +10,13 @@ use borrow.Author.Tests.{eq-eqb, ne-eqb, le-leb, lt-leb}
 use Rattle.laws.specs.Lines.{firstLine}
 use Rattle.laws.specs.Padded.{padded}
 use Rattle.laws.proofs.Padded.{padded-at}
-use Rattle.messages.specs.Layout.{bits, objectsOf, structured, major, headOf}
+use Rattle.messages.specs.Layout.{bits, objectsOf, structured, major, editionSaid, headOf}
 use Rattle.messages.specs.Table.{shape}
-use Rattle.messages.specs.Reading.{wrongLength, headerLines, headerIn, objectsIn, readRefusal, messageIn, accepted, refused, outcome, readOutcome, shown}
+use Rattle.messages.specs.Reading.{wrongLength, headerLines, headerIn, objectsIn, readRefusal, messageIn, editionIn, accepted, refused, outcome, readOutcome, shown}
 use Rattle.messages.specs.declared.ReadAs.the-variants.{Message as ReadAs·Message}
 use Rattle.messages.specs.declared.Head.{Head}
 use Rattle.messages.specs.declared.Reading.{Reading}
+use Rattle.messages.specs.declared.edition.Edition.{Edition}
 use Rattle.messages.proofs.Objects.{length-objects}
 
 pub head-of : (w s c k p : ℕ) → s ≡ bits 31 16 w → c ≡ bits 4 0 w → k ≡ bits 7 6 w → p ≡ bits 10 8 w →
@@ -67,7 +68,7 @@ pub read-refused : (b : List ℕ) (number : ℕ) → (number ≡ 0 → ⊥) → 
 unfolding readOutcome outcome
 read-refused b number h e = rw (e, ne-eqb _ _ h)
 
-pub read-accepted : (b : List ℕ) → readRefusal b ≡ 0 → readOutcome b ≡ accepted (messageIn b)
+pub read-accepted : (b : List ℕ) → readRefusal b ≡ 0 → readOutcome b ≡ accepted (editionIn b) (messageIn b)
 unfolding readOutcome outcome
 read-accepted b e = rw e
 
@@ -75,7 +76,7 @@ pub outcome-refused : (b : List ℕ) (number : ℕ) → readOutcome b ≡ refuse
 unfolding readOutcome outcome
 outcome-refused b number = go (eqb (readRefusal b) 0)
   where
-    go : (t : Bool) → cond t (accepted (messageIn b)) (refused (readRefusal b)) ≡ refused number → readRefusal b ≡ number
+    go : (t : Bool) → cond t (accepted (editionIn b) (messageIn b)) (refused (readRefusal b)) ≡ refused number → readRefusal b ≡ number
     go true e = absurd (let o : _≡_ {A = ℕ} 0 1 = cc in omega arith)
     go false e = cc
 
@@ -101,10 +102,10 @@ module _ (b : List ℕ) (l : 4 ≤ length b) (m : length b ≤ 28) (e : length b
   pub shown-number : (number ≡ 0 → ⊥) → shown (refused number) ≡ shown (readOutcome b)
   shown-number h = ap shown (sym (read-refused b number h number-of))
 
-  pub shown-message : number ≡ 0 → (h : Head) (o : List ℕ) → h ≡ headOf header → o ≡ objectsIn b →
-      _≡_ {A = Reading} (record { outcome = ReadAs·Message h (length b / 4 - 1); objects = o }) (shown (readOutcome b))
-  unfolding shown messageIn
-  shown-message z h o ehead eo =
+  pub shown-message : number ≡ 0 → (at : Edition) (h : Head) (o : List ℕ) → at ≡ editionSaid header → h ≡ headOf header → o ≡ objectsIn b →
+      _≡_ {A = Reading} (record { outcome = ReadAs·Message at h (length b / 4 - 1); objects = o }) (shown (readOutcome b))
+  unfolding shown messageIn editionIn
+  shown-message z at h o eat ehead eo =
       let count : length (drop 1 (objectsOf b)) ≡ length b / 4 - 1 = length-drop 1 (objectsOf b) ∙ ap (λ (n : ℕ). n - 1) (length-objects b) in
-      let good : readOutcome b ≡ accepted (messageIn b) = read-accepted b (number-of ∙ z) in
-      rw (good, count, ehead, eh, eo)
+      let good : readOutcome b ≡ accepted (editionIn b) (messageIn b) = read-accepted b (number-of ∙ z) in
+      rw (good, count, eat, ehead, eh, eo)

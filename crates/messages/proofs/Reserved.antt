@@ -1,5 +1,5 @@
 -- Bit 5 means nothing when it is read, and refusal 4 is never given (02, R-2).
-use mathlib.Core.Path.{_≡_, refl, ap, ap₂, sym, _∙_}
+use mathlib.Core.Path.{_≡_, refl, ap, sym, _∙_}
 use mathlib.Core.Bool.{Bool, true, false, cond, not, false≢true}
 use mathlib.Core.List.{List, [], _∷_}
 use Prim.Native.Nat.{ℕ, _/_, _≤_}
@@ -7,10 +7,10 @@ use native.Mathlib.Omega.{arith}
 use lib.Dec.{ltb}
 use lib.ListN.{length, drop, length-set}
 use Rattle.laws.specs.Lines.{firstAt}
-use Rattle.messages.specs.Layout.{objectOf, objectsOf, structured, major, reserved, headOf, Message, messageBytes, withoutReserved, withReservedClear, withReservedSet}
-use Rattle.messages.specs.Reading.{wrongLength, unstructured, wrongMajor, wrongShape, headerIn, readLines, readRefusal, messageIn, refused, outcome, readOutcome}
+use Rattle.messages.specs.Layout.{objectOf, objectsOf, structured, major, reserved, editionSaid, headOf, Message, messageLength, withoutReserved, withReservedClear, withReservedSet}
+use Rattle.messages.specs.Reading.{wrongLength, unstructured, wrongMajor, wrongShape, headerIn, readLines, readRefusal, messageIn, editionIn, refused, outcome, readOutcome}
 use Rattle.messages.specs.Writing.{wellShaped, writeRefusal}
-use Rattle.messages.proofs.Header.{clear-structured, clear-major, clear-head}
+use Rattle.messages.proofs.Header.{clear-structured, clear-major, clear-edition, clear-head}
 use Rattle.messages.proofs.Laws.{read-refused-by}
 
 -- what a header says whatever its bit 5, the header among bytes says
@@ -35,6 +35,10 @@ same-message : (b : List ℕ) → messageIn (withReservedClear b) ≡ messageIn 
 unfolding messageIn
 same-message b = λ i. record { head = same-said headOf clear-head b i; objects = same-objects b i }
 
+same-edition : (b : List ℕ) → editionIn (withReservedClear b) ≡ editionIn b
+unfolding editionIn
+same-edition b = same-said editionSaid clear-edition b
+
 same-length : (b : List ℕ) → length (withReservedClear b) ≡ length b
 unfolding withReservedClear
 same-length b = length-set b 0 _
@@ -47,7 +51,7 @@ same-refusal b =
 -- a message is read as the one with bit 5 clear: the same number, or the same message
 pub reserved-ignored : (b : List ℕ) → readOutcome (withReservedClear b) ≡ readOutcome b
 unfolding readOutcome
-reserved-ignored b = ap₂ outcome (same-refusal b) (same-message b)
+reserved-ignored b = λ i. outcome (same-refusal b i) (same-edition b i) (same-message b i)
 
 -- what was cleared or set before is cleared to the same
 pub clear-again : (b : List ℕ) → withReservedClear (withReservedClear b) ≡ withReservedClear b
@@ -89,7 +93,7 @@ read-never-4 b e = never-line-4 b (read-refused-by b 3 .0 e)
 -- nor is writing
 pub write-never-4 : (m : Message) (room : ℕ) → writeRefusal m room ≡ 4 → ⊥
 unfolding writeRefusal
-write-never-4 m room = go (wellShaped m) (ltb room (length (messageBytes m)))
+write-never-4 m room = go (wellShaped m) (ltb room (messageLength m))
   where
     go : (s t : Bool) → _≡_ {A = ℕ} (cond (not s) 5 (cond t 11 0)) 4 → ⊥
     go true true e = omega arith

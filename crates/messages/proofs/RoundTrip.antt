@@ -11,18 +11,21 @@ use borrow.Author.Tests.{eqb-true, eqb-false, leb-true, not-false}
 use Rattle.laws.specs.Bounded.{Below}
 use Rattle.laws.specs.Lines.{firstLine}
 use Rattle.laws.proofs.Lines.{and-left, and-right, none-holds}
-use Rattle.messages.specs.Layout.{bits, objectOf, bytesOfObject, objectsOf, bytesOf, structured, headOf, headerOf, Message, Representable, messageBytes, withOurVersion, withoutReserved, withReservedClear}
+use Rattle.messages.specs.Editions.{majorOf, minorOf}
+use Rattle.messages.specs.Layout.{bits, objectOf, bytesOfObject, objectsOf, bytesOf, structured, editionSaid, headOf, headerOf, Message, Representable, messageBytes, withVersion, withoutReserved, withReservedClear}
 use Rattle.messages.specs.Table.{shape}
-use Rattle.messages.specs.Reading.{headerLines, headerIn, readLines, readRefusal, messageIn, accepted, refused, outcome, readOutcome}
+use Rattle.messages.specs.Reading.{headerLines, headerIn, readLines, readRefusal, messageIn, editionIn, accepted, refused, outcome, readOutcome}
 use Rattle.messages.specs.Writing.{wellShaped}
 use Rattle.messages.specs.declared.Head.{Head}
-use Rattle.messages.proofs.Header.{header-below, header-structured, header-major, head-header, header-head}
+use Rattle.messages.specs.declared.edition.Edition.{Edition}
+use Rattle.messages.proofs.Editions.{version-below}
+use Rattle.messages.proofs.Header.{header-below, header-structured, header-major, header-edition, head-header, header-head}
 use Rattle.messages.proofs.Objects.{objects-below, bytes-below, objects-bytes, bytes-objects, object-bytes, length-objects}
 use Rattle.messages.proofs.Refusals.{right-length, lines-none, read-accepted, refusal-header}
 use Rattle.messages.proofs.Rule.{shape-command, shape-kind, shape-position, shape-count}
 use Rattle.messages.proofs.Stores.{length-message}
 
-module _ (m : Message) (fits : Representable m) (good : wellShaped m ≡ true) where
+module _ (e : Edition) (m : Message) (fits : Representable m) (good : wellShaped m ≡ true) where
   good-shape : shape (m .head) (length (m .objects) + 1) ≡ true
   unfolding wellShaped
   good-shape = good
@@ -36,65 +39,70 @@ module _ (m : Message) (fits : Representable m) (good : wellShaped m ≡ true) w
   good-position : m .head .position < 8
   good-position = shape-position _ _ good-shape
 
-  objects-again : objectsOf (messageBytes m) ≡ headerOf (m .head) ∷ m .objects
+  objects-again : objectsOf (messageBytes e m) ≡ headerOf e (m .head) ∷ m .objects
   unfolding messageBytes
-  objects-again = objects-bytes (headerOf (m .head) ∷ m .objects) below
+  objects-again = objects-bytes (headerOf e (m .head) ∷ m .objects) below
     where
-      below : Below (2 ^ 32) (headerOf (m .head) ∷ m .objects)
+      below : Below (2 ^ 32) (headerOf e (m .head) ∷ m .objects)
       below zero =
-          header-below (m .head) (fits .svid-fits) good-command good-kind good-position
+          header-below e (m .head) (fits .svid-fits) good-command good-kind good-position
       below (suc k) = fits .objects-fit k
 
-  header-again : headerIn (messageBytes m) ≡ headerOf (m .head)
+  header-again : headerIn (messageBytes e m) ≡ headerOf e (m .head)
   header-again = ap (λ (l : List ℕ). getD l 0 0) objects-again
 
-  count-again : length (messageBytes m) / 4 ≡ length (m .objects) + 1
-  count-again = omega (arith, length-message m)
+  count-again : length (messageBytes e m) / 4 ≡ length (m .objects) + 1
+  count-again = omega (arith, length-message e m)
 
-  head-again : headOf (headerOf (m .head)) ≡ m .head
-  head-again = head-header (m .head) (fits .svid-fits) good-command good-kind good-position
+  head-again : headOf (headerOf e (m .head)) ≡ m .head
+  head-again = head-header e (m .head) (fits .svid-fits) good-command good-kind good-position
 
-  no-line : 0 ≡ firstLine 2 (headerLines (headerOf (m .head)) (length (m .objects) + 1))
+  no-line : 0 ≡ firstLine 2 (headerLines (headerOf e (m .head)) (length (m .objects) + 1))
   no-line =
-      lines-none (headerOf (m .head)) (length (m .objects) + 1)
-      (λ z. omega (arith, header-structured (m .head) (fits .svid-fits) good-command good-kind good-position))
-      (omega (arith, header-major (m .head) (fits .svid-fits) good-command good-kind good-position))
+      lines-none (headerOf e (m .head)) (length (m .objects) + 1)
+      (λ z. omega (arith, header-structured e (m .head) (fits .svid-fits) good-command good-kind good-position))
+      (omega (arith, header-major e (m .head) (fits .svid-fits) good-command good-kind good-position, version-below e .0))
       (sym (ap (λ (h : Head). shape h (length (m .objects) + 1)) head-again ∙ good-shape))
 
-  not-refused : readRefusal (messageBytes m) ≡ 0
+  not-refused : readRefusal (messageBytes e m) ≡ 0
   not-refused =
-      refusal-header (messageBytes m)
-      (right-length (length (messageBytes m)) (omega (arith, length-message m)) (omega (arith, length-message m, shape-count _ _ good-shape .1)) (omega (arith, length-message m))) ∙
-      ap (λ (w : ℕ). firstLine 2 (headerLines w (length (messageBytes m) / 4))) header-again ∙
-      ap (λ (n : ℕ). firstLine 2 (headerLines (headerOf (m .head)) n)) count-again ∙ sym no-line
+      refusal-header (messageBytes e m)
+      (right-length (length (messageBytes e m)) (omega (arith, length-message e m)) (omega (arith, length-message e m, shape-count _ _ good-shape .1)) (omega (arith, length-message e m))) ∙
+      ap (λ (w : ℕ). firstLine 2 (headerLines w (length (messageBytes e m) / 4))) header-again ∙
+      ap (λ (n : ℕ). firstLine 2 (headerLines (headerOf e (m .head)) n)) count-again ∙ sym no-line
 
-  message-again : messageIn (messageBytes m) ≡ m
+  message-again : messageIn (messageBytes e m) ≡ m
   unfolding messageIn
   message-again =
-      let eh : headOf (headerIn (messageBytes m)) ≡ m .head = ap headOf header-again ∙ head-again in
-      let eo : drop 1 (objectsOf (messageBytes m)) ≡ m .objects = ap (λ (l : List ℕ). drop 1 l) objects-again in
+      let eh : headOf (headerIn (messageBytes e m)) ≡ m .head = ap headOf header-again ∙ head-again in
+      let eo : drop 1 (objectsOf (messageBytes e m)) ≡ m .objects = ap (λ (l : List ℕ). drop 1 l) objects-again in
       λ i. record { head = eh i; objects = eo i }
 
-  pub read-bytes : readOutcome (messageBytes m) ≡ accepted m
-  read-bytes = read-accepted (messageBytes m) not-refused ∙ ap accepted message-again
+  edition-again : editionIn (messageBytes e m) ≡ e
+  unfolding editionIn
+  edition-again = ap editionSaid header-again ∙ header-edition e (m .head) (fits .svid-fits) good-command good-kind good-position
+
+  pub read-bytes : readOutcome (messageBytes e m) ≡ accepted e m
+  read-bytes = read-accepted (messageBytes e m) not-refused ∙ ap₂ accepted edition-again message-again
 
 -- what an accepted message says of its bytes
-outcome-accepted : (number : ℕ) (n m : Message) → outcome number n ≡ accepted m → (number ≡ 0) × (n ≡ m)
+outcome-accepted : (number : ℕ) (d : Edition) (n : Message) (e : Edition) (m : Message) → outcome number d n ≡ accepted e m →
+    (number ≡ 0) × (d ≡ e) × (n ≡ m)
 unfolding outcome
-outcome-accepted number n m = go (eqb number 0) refl
+outcome-accepted number d n e m = go (eqb number 0) refl
   where
-    go : (t : Bool) → eqb number 0 ≡ t → cond t (accepted n) (refused number) ≡ accepted m → (number ≡ 0) × (n ≡ m)
-    go true z e = (eqb-true number 0 z, cc)
+    go : (t : Bool) → eqb number 0 ≡ t → cond t (accepted d n) (refused number) ≡ accepted e m → (number ≡ 0) × (d ≡ e) × (n ≡ m)
+    go true z e = (eqb-true number 0 z, cc, cc)
     go false z e = absurd (let o : _≡_ {A = ℕ} 0 1 = cc in omega arith)
 
-module _ (b : List ℕ) (m : Message) (e : readOutcome b ≡ accepted m) where
+module _ (b : List ℕ) (at : Edition) (m : Message) (e : readOutcome b ≡ accepted at m) where
   is-in : messageIn b ≡ m
   unfolding readOutcome
-  is-in = outcome-accepted (readRefusal b) (messageIn b) m e .1
+  is-in = outcome-accepted (readRefusal b) (editionIn b) (messageIn b) at m e .2
 
   line : (k : ℕ) → getD (readLines b) k false ≡ false
   unfolding readOutcome readRefusal
-  line k = none-holds 1 (readLines b) (omega arith) (outcome-accepted (readRefusal b) (messageIn b) m e .0) k
+  line k = none-holds 1 (readLines b) (omega arith) (outcome-accepted (readRefusal b) (editionIn b) (messageIn b) at m e .0) k
 
   pub accepted-length : (4 ≤ length b) × (length b ≤ 28) × (length b % 4 ≡ 0)
   accepted-length =
@@ -123,34 +131,35 @@ drop-below : (n : ℕ) (l : List ℕ) → Below n l → Below n (drop 1 l)
 drop-below n [] b k = b k
 drop-below n (x ∷ l) b k = b (suc k)
 
-pub accepted-fits : (b : List ℕ) (m : Message) → Below 256 b → readOutcome b ≡ accepted m → Representable m
+pub accepted-fits : (b : List ℕ) (at : Edition) (m : Message) → Below 256 b → readOutcome b ≡ accepted at m → Representable m
 unfolding messageIn headOf
-accepted-fits b m below e =
-    subst Representable (is-in b m e)
+accepted-fits b at m below e =
+    subst Representable (is-in b at m e)
     (record { svid-fits = mod-lt _ (omega arith); objects-fit = drop-below (2 ^ 32) (objectsOf b) (objects-below b below) })
 
-pub message-bytes : (m : Message) → Below 256 (messageBytes m)
+pub message-bytes : (e : Edition) (m : Message) → Below 256 (messageBytes e m)
 unfolding messageBytes
-message-bytes m = bytes-below (headerOf (m .head) ∷ m .objects)
+message-bytes e m = bytes-below (headerOf e (m .head) ∷ m .objects)
 
 -- four bytes are the header: bit 5 stands in its first, the version in its second
-bytes-again : (b : List ℕ) → Below 256 b → 4 ≤ length b → length b % 4 ≡ 0 → structured (headerIn b) ≡ 1 →
-    messageBytes (messageIn b) ≡ withOurVersion (withReservedClear b)
-unfolding messageBytes messageIn withOurVersion withReservedClear objectsOf bytesOf
-bytes-again [] below l e s = absurd (omega arith)
-bytes-again (p ∷ []) below l e s = absurd (omega arith)
-bytes-again (p ∷ q ∷ []) below l e s = absurd (omega arith)
-bytes-again (p ∷ q ∷ r ∷ []) below l e s = absurd (omega arith)
-bytes-again (p ∷ q ∷ r ∷ t ∷ rest) below l e s =
+bytes-again : (at : Edition) (b : List ℕ) → Below 256 b → 4 ≤ length b → length b % 4 ≡ 0 → structured (headerIn b) ≡ 1 →
+    messageBytes at (messageIn b) ≡ withVersion at (withReservedClear b)
+unfolding messageBytes messageIn withVersion withReservedClear objectsOf bytesOf
+bytes-again at [] below l e s = absurd (omega arith)
+bytes-again at (p ∷ []) below l e s = absurd (omega arith)
+bytes-again at (p ∷ q ∷ []) below l e s = absurd (omega arith)
+bytes-again at (p ∷ q ∷ r ∷ []) below l e s = absurd (omega arith)
+bytes-again at (p ∷ q ∷ r ∷ t ∷ rest) below l e s =
     let cleared : ℕ = withoutReserved p in
-    let version : ℕ = bits 7 7 q * 2 ^ 7 + 1 * 2 ^ 5 + 0 * 2 ^ 3 + bits 2 0 q in
-    let header : headerOf (headOf (objectOf p q r t)) ≡ objectOf cleared version r t = header-head p q r t (below 0) (below 1) (below 2) (below 3) s in
-    let first : bytesOfObject (headerOf (headOf (objectOf p q r t))) ≡ cleared ∷ version ∷ r ∷ t ∷ [] =
-    ap bytesOfObject header ∙ object-bytes cleared version r t (omega (arith, below 0)) (omega arith) (below 2) (below 3) in
+    let version : ℕ = bits 7 7 q * 2 ^ 7 + majorOf at * 2 ^ 5 + minorOf at * 2 ^ 3 + bits 2 0 q in
+    let header : headerOf at (headOf (objectOf p q r t)) ≡ objectOf cleared version r t = header-head p q r t (below 0) (below 1) (below 2) (below 3) at s in
+    let first : bytesOfObject (headerOf at (headOf (objectOf p q r t))) ≡ cleared ∷ version ∷ r ∷ t ∷ [] =
+    ap bytesOfObject header ∙ object-bytes cleared version r t (omega (arith, below 0)) (omega (arith, version-below at .0, version-below at .1)) (below 2) (below 3) in
     let others : bytesOf (objectsOf rest) ≡ rest = bytes-objects rest (λ k. below (suc (suc (suc (suc k))))) (omega arith) in
     ap₂ (λ (x y : List ℕ). x ++ y) first others
 
-pub bytes-read : (b : List ℕ) (m : Message) → Below 256 b → readOutcome b ≡ accepted m → messageBytes m ≡ withOurVersion (withReservedClear b)
-bytes-read b m below e =
-    ap messageBytes (sym (is-in b m e)) ∙
-    bytes-again b below (accepted-length b m e .0) (accepted-length b m e .2) (is-structured b m e)
+pub bytes-read : (b : List ℕ) (at : Edition) (m : Message) → Below 256 b → readOutcome b ≡ accepted at m →
+    messageBytes at m ≡ withVersion at (withReservedClear b)
+bytes-read b at m below e =
+    ap (messageBytes at) (sym (is-in b at m e)) ∙
+    bytes-again at b below (accepted-length b at m e .0) (accepted-length b at m e .2) (is-structured b at m e)

@@ -10,9 +10,10 @@ use lib.ListN.{length, getD, take, drop, set}
 use lib.Seq.{sets, length-sets, length-take-le, take-suc}
 use borrow.Author.Tests.{lt-ltb, le-ltb}
 use Rattle.laws.proofs.Stores.{sets-append, sets-front}
-use Rattle.messages.specs.Layout.{bytesOfObject, bytesOf, headerOf, Message, messageBytes}
+use Rattle.messages.specs.Layout.{bytesOfObject, bytesOf, headerOf, Message, messageBytes, messageLength}
 use Rattle.messages.specs.Table.{shape}
 use Rattle.messages.specs.Writing.{wellShaped, writeRefusal, written, Written}
+use Rattle.messages.specs.declared.edition.Edition.{Edition}
 use Rattle.messages.proofs.Objects.{length-bytes}
 use Rattle.messages.proofs.Rule.{shape-count}
 
@@ -58,38 +59,44 @@ store-step out before after objects i h b a =
 pub length-stored : (out stored bytes : List ℕ) (at : ℕ) → stored ≡ sets out at bytes → length stored ≡ length out
 length-stored out stored bytes at e = ap length e ∙ length-sets out at bytes
 
-pub length-message : (m : Message) → length (messageBytes m) ≡ length (m .objects) * 4 + 4
+pub length-message : (e : Edition) (m : Message) → length (messageBytes e m) ≡ messageLength m
 unfolding messageBytes
-length-message m = omega (arith, length-bytes (headerOf (m .head) ∷ m .objects))
+length-message e m = omega (arith, length-bytes (headerOf e (m .head) ∷ m .objects))
 
 -- the header, then the objects
-pub store-message : (m : Message) (out one after : List ℕ) → length (messageBytes m) ≤ length out →
-    one ≡ sets out 0 (bytesOfObject (headerOf (m .head))) → after ≡ sets one 4 (bytesOf (m .objects)) →
-    after ≡ messageBytes m ++ drop (length (messageBytes m)) out
+stored-whole : (e : Edition) (m : Message) (out one after : List ℕ) → length (messageBytes e m) ≤ length out →
+    one ≡ sets out 0 (bytesOfObject (headerOf e (m .head))) → after ≡ sets one 4 (bytesOf (m .objects)) →
+    after ≡ messageBytes e m ++ drop (length (messageBytes e m)) out
 unfolding messageBytes bytesOf bytesOfObject
-store-message m out one after fits eo ea =
+stored-whole e m out one after fits eo ea =
     ea ∙ ap (λ (l : List ℕ). sets l 4 (bytesOf (m .objects))) eo ∙
-    sym (sets-append out 0 (bytesOfObject (headerOf (m .head))) (bytesOf (m .objects))) ∙
-    sets-front out (bytesOf (headerOf (m .head) ∷ m .objects)) fits
+    sym (sets-append out 0 (bytesOfObject (headerOf e (m .head))) (bytesOf (m .objects))) ∙
+    sets-front out (bytesOf (headerOf e (m .head) ∷ m .objects)) fits
+
+pub store-message : (e : Edition) (m : Message) (out one after : List ℕ) → messageLength m ≤ length out →
+    one ≡ sets out 0 (bytesOfObject (headerOf e (m .head))) → after ≡ sets one 4 (bytesOf (m .objects)) →
+    after ≡ messageBytes e m ++ drop (messageLength m) out
+store-message e m out one after fits eo ea =
+    stored-whole e m out one after (omega (arith, length-message e m)) eo ea ∙ ap (λ (n : ℕ). messageBytes e m ++ drop n out) (length-message e m)
 
 -- the ways out of writing
-module _ (m : Message) (out : List ℕ) where
-  pub write-shape : wellShaped m ≡ false → Written m out 5 out
+module _ (e : Edition) (m : Message) (out : List ℕ) where
+  pub write-shape : wellShaped m ≡ false → Written e m out 5 out
   unfolding writeRefusal written
   write-shape bad = record { number-is = simp bad; buffer-is = simp bad }
 
-  pub write-short : wellShaped m ≡ true → length out < length (messageBytes m) → Written m out 11 out
+  pub write-short : wellShaped m ≡ true → length out < messageLength m → Written e m out 11 out
   unfolding writeRefusal written
   write-short good short =
       let t = lt-ltb _ _ short in
       record { number-is = simp (good, t); buffer-is = simp (good, t) }
 
-  pub write-whole : wellShaped m ≡ true → length (messageBytes m) ≤ length out → (after : List ℕ) →
-      after ≡ messageBytes m ++ drop (length (messageBytes m)) out → Written m out 0 after
+  pub write-whole : wellShaped m ≡ true → messageLength m ≤ length out → (after : List ℕ) →
+      after ≡ messageBytes e m ++ drop (messageLength m) out → Written e m out 0 after
   unfolding writeRefusal written
-  write-whole good room after e =
+  write-whole good room after is =
       let t = le-ltb _ _ room in
-      record { number-is = simp (good, t); buffer-is = simp (good, t) e }
+      record { number-is = simp (good, t); buffer-is = simp (good, t) is }
 
 pub shape-many : (m : Message) → 6 < length (m .objects) → wellShaped m ≡ false
 unfolding wellShaped

@@ -1,4 +1,4 @@
--- Reading a message: refusals 1, 2, 3 and 5 in their order, or the message (01, "Message layout" and "Refusal numbers"; 02, R-2).
+-- Reading a message: refusals 1, 2, 3 and 5 in their order, or the message with its edition (01, "Message layout" and "Refusal numbers"; 02, R-2, R-5).
 use Prim.Native.Nat.{ℕ, _/_, _%_}
 use mathlib.Core.Bool.{Bool, false, cond, not, _&&_}
 use mathlib.Core.List.{List, [], _∷_}
@@ -6,9 +6,10 @@ use lib.Dec.{leb, eqb}
 use lib.ListN.{length, getD, drop, replicate}
 use Rattle.laws.specs.Lines.{firstLine}
 use Rattle.laws.specs.Padded.{padded}
-use Rattle.messages.specs.Layout.{objectsOf, structured, major, headOf, Message}
+use Rattle.messages.specs.Layout.{objectsOf, structured, major, editionSaid, headOf, Message}
 use Rattle.messages.specs.Table.{shape}
 use Rattle.messages.specs.declared.Reading.{Reading}
+use Rattle.messages.specs.declared.edition.Edition.{Edition}
 use Rattle.messages.specs.declared.ReadAs.{ReadAs}
 use Rattle.messages.specs.declared.ReadAs.the-variants.{Message as ReadAs·Message}
 use Rattle.messages.specs.declared.ReadAs.the-variants.{Refused}
@@ -52,15 +53,18 @@ readRefusal b = firstLine 1 (readLines b)
 unfoldable pub messageIn : List ℕ → Message
 messageIn b = record { head = headOf (headerIn b); objects = drop 1 (objectsOf b) }
 
+unfoldable pub editionIn : List ℕ → Edition
+editionIn b = editionSaid (headerIn b)
+
 pub data Outcome : Type 0 where
-  accepted : Message → Outcome
+  accepted : Edition → Message → Outcome
   refused : ℕ → Outcome
 
-unfoldable pub outcome : ℕ → Message → Outcome
-outcome number m = cond (eqb number 0) (accepted m) (refused number)
+unfoldable pub outcome : ℕ → Edition → Message → Outcome
+outcome number e m = cond (eqb number 0) (accepted e m) (refused number)
 
 unfoldable pub readOutcome : List ℕ → Outcome
-readOutcome b = outcome (readRefusal b) (messageIn b)
+readOutcome b = outcome (readRefusal b) (editionIn b) (messageIn b)
 
 -- objects 2 to 7 of a run of bytes, with 0 for one that is not there
 abbrev pub objectsIn : List ℕ → List ℕ
@@ -68,10 +72,10 @@ objectsIn b = padded (drop 1 (objectsOf b))
 
 -- how the code shows an outcome: 01's number, or its values
 unfoldable pub shown : Outcome → Reading
-shown (accepted m) = record { outcome = ReadAs·Message (m .head) (length (m .objects)); objects = padded (m .objects) }
+shown (accepted e m) = record { outcome = ReadAs·Message e (m .head) (length (m .objects)); objects = padded (m .objects) }
 shown (refused number) = record { outcome = Refused number; objects = replicate 6 0 }
 
 -- the refusal number of what was read, 0 for a message
 abbrev pub readNumber : ReadAs → ℕ
-readNumber (ReadAs·Message h count) = 0
+readNumber (ReadAs·Message e h count) = 0
 readNumber (Refused number) = number

@@ -1,9 +1,16 @@
 // Structured VDMs of USB Power Delivery: document 01, "Message layout". What a message is made of, and the table. `reading` reads one off bytes,
 // `writing` writes one.
+mod edition;
 mod object;
 mod request;
 mod table;
 
+pub use edition::Edition;
+pub use edition::Named;
+pub use edition::OURS;
+pub use edition::edition_named;
+pub use edition::edition_number;
+pub use edition::lower;
 pub use object::bytes_of;
 pub use object::first_objects;
 pub use request::Request;
@@ -12,7 +19,7 @@ pub use request::request_of;
 pub use request::same_request;
 pub use table::shape;
 
-// What a VDM header says, its version left out. 01's types are numbers here: REQ, ACK, NAK, BUSY.
+// What a VDM header says, its edition left out: nothing that is compared looks at that. 01's types are numbers here: REQ, ACK, NAK, BUSY.
 pub struct Head {
     pub svid: u16,
     pub command: u8,
@@ -42,9 +49,9 @@ pub const EXIT: u8 = 5;
 
 pub const ATTENTION: u8 = 6;
 
-// A message's head and the number of objects after the header, or a refusal number.
+// A message's edition, its head and the number of objects after the header, or a refusal number.
 pub enum ReadAs {
-    Message(Head, u8),
+    Message(Edition, Head, u8),
     Refused(u8),
 }
 

@@ -3,9 +3,10 @@ mod object;
 
 ghost use mathlib.Core.Path.{_≡_};
 ghost use Rattle.laws.specs.Lines.{firstLine};
-ghost use Rattle.messages.specs.Layout.{headOf};
+ghost use Rattle.messages.specs.Layout.{headOf, editionSaid};
 ghost use Rattle.messages.specs.Reading.{headerLines, objectsIn, readOutcome, shown, readNumber};
 ghost use Rattle.messages.specs.Reading.{refused as Outcome·refused};
+use messages::Edition;
 use messages::Head;
 use messages::ReadAs;
 use messages::Reading;
@@ -25,6 +26,19 @@ fn head_of(header: u32) -> Head
         kind,
         position,
     }
+}
+
+// Major 0 is 1.0 whatever its minor; of major 1 a minor above 1 counts as 1.
+fn edition_said(header: u32) -> Edition
+    ensures { λ r. ⌜ r ≡ editionSaid header ⌝ }
+{
+    if header / 8192 % 4 == 0 {
+        return Edition::OneZero;
+    }
+    if header / 2048 % 4 == 0 {
+        return Edition::TwoZero;
+    }
+    Edition::TwoOne
 }
 
 // Refusals 2, 3 and 5, by the header and the number of objects; 0 where there is none. Bit 5 is not looked at (02, R-2).
@@ -82,7 +96,7 @@ pub fn read(bytes: &[u8]) -> Reading
         return refused(number);
     }
     Reading {
-        outcome: ReadAs::Message(head_of(header), (n / 4 - 1) as u8),
+        outcome: ReadAs::Message(edition_said(header), head_of(header), (n / 4 - 1) as u8),
         objects: objects_in(bytes),
     }
 }
@@ -92,7 +106,7 @@ pub fn number(outcome: ReadAs) -> u8
     ensures { λ r. ⌜ r ≡ readNumber outcome ⌝ }
 {
     match outcome {
-        ReadAs::Message(_, _) => 0,
+        ReadAs::Message(_, _, _) => 0,
         ReadAs::Refused(number) => number,
     }
 }

@@ -1,21 +1,37 @@
-// Writing a message into a lent buffer: document 01, "Message layout" and refusals 5 and 11. What writing leaves is defined in `messages`.
+// Writing a message at an edition into a lent buffer: document 01, "Message layout" and refusals 5 and 11; document 02, R-5. What writing leaves is defined in
+// `messages`.
 ghost use mathlib.Core.Path.{_≡_};
 ghost use Prim.Native.Nat.{_+_, _*_, _<_, _≤_};
 ghost use lib.ListN.{length};
 ghost use lib.Seq.{sets};
+ghost use Rattle.messages.specs.Editions.{majorOf, minorOf};
 ghost use Rattle.messages.specs.Layout.{bytesOfObject, bytesOf, headerOf};
-ghost use Rattle.messages.specs.Writing.{Written};
+ghost use Rattle.messages.specs.Writing.{Written, WrittenAs};
+use messages::Edition;
 use messages::Head;
+use messages::Named;
 use messages::bytes_of;
+use messages::edition_named;
 use messages::shape;
 
-// The first object: structured, major 1, minor 0, and what the head says.
-fn header_of(head: Head) -> u32
+// Structured, and the edition's major and minor.
+fn version_of(edition: Edition) -> u32
+    ensures { λ r. ⌜ r ≡ 32768 + majorOf edition * 8192 + minorOf edition * 2048 ⌝ }
+{
+    match edition {
+        Edition::OneZero => 0x8000,
+        Edition::TwoZero => 0xA000,
+        Edition::TwoOne => 0xA800,
+    }
+}
+
+// The first object: the version, and what the head says.
+fn header_of(edition: Edition, head: Head) -> u32
     requires { ⌜ (head .command < 32) × (head .kind < 4) × (head .position < 8) ⌝ }
-    ensures { λ r. ⌜ r ≡ headerOf head ⌝ }
+    ensures { λ r. ⌜ r ≡ headerOf edition head ⌝ }
 {
     (head.svid as u32) * 65536
-        + 0xA000
+        + version_of(edition)
         + (head.position as u32) * 256
         + (head.kind as u32) * 64
         + (head.command as u32)
@@ -44,8 +60,8 @@ fn put_objects(out: &mut [u8], objects: &[u32])
     }
 }
 
-pub fn write(head: Head, objects: &[u32], out: &mut [u8]) -> u8
-    ensures { λ r. ⌜ Written (record { head = head; objects = now (objects .entry) }) (now (out .entry)) r (now (out .exit)) ⌝ }
+pub fn write(edition: Edition, head: Head, objects: &[u32], out: &mut [u8]) -> u8
+    ensures { λ r. ⌜ Written edition (record { head = head; objects = now (objects .entry) }) (now (out .entry)) r (now (out .exit)) ⌝ }
 {
     let n = objects.len();
     if 6 < n {
@@ -55,9 +71,19 @@ pub fn write(head: Head, objects: &[u32], out: &mut [u8]) -> u8
         if out.len() < n * 4 + 4 {
             return 11;
         }
-        put_object(out, 0, header_of(head));
+        put_object(out, 0, header_of(edition, head));
         put_objects(out, objects);
         return 0;
     }
     5
+}
+
+// At the edition that a number names: 10, 20 or 21. Any other is refused 5.
+pub fn write_numbered(edition: u8, head: Head, objects: &[u32], out: &mut [u8]) -> u8
+    ensures { λ r. ⌜ WrittenAs edition (record { head = head; objects = now (objects .entry) }) (now (out .entry)) r (now (out .exit)) ⌝ }
+{
+    match edition_named(edition) {
+        Named::Edition(at) => write(at, head, objects, out),
+        Named::Nothing => 5,
+    }
 }

@@ -40,11 +40,14 @@ returns-4 c = let b = c .before .before .before .before .before .before .before 
     c .refused4 .ensures ∙
     shown-number b (c .before .before .before .before .before .before .if1 .left) (c .before .before .before .before .before .if2 .left) (c .before .before .before .before .if3 .left) _ _ (c .before .before .before .object-at .ensures) (c .before .before .header-refusal .ensures) (c .before .if4 .taken)
 
+edition-said-requires : tie.Need-edition-said-requires
+edition-said-requires c κs = search needs
+
 head-of-requires : tie.Need-head-of-requires
 head-of-requires c κs = search needs
 
-sub-t9 : tie.Need-sub-t9
-sub-t9 c = search needs
+sub-t10 : tie.Need-sub-t10
+sub-t10 c = search needs
 
 cast-t7 : tie.Need-cast-t7
 cast-t7 c = search needs
@@ -53,9 +56,9 @@ objects-in-requires : tie.Need-objects-in-requires
 objects-in-requires c κs = search needs
 
 returns-5 : tie.Need-returns-5
-returns-5 c = let b = c .before .before .before .before .before .before .before .before .before .args .bytes .now in
-    shown-message b (c .before .before .before .before .before .before .before .if1 .left) (c .before .before .before .before .before .before .if2 .left) (c .before .before .before .before .before .if3 .left) _ _ (c .before .before .before .before .object-at .ensures) (c .before .before .before .header-refusal .ensures) (c .before .before .if4 .left) _ _
-    (c .before .head-of .ensures) (c .objects-in .ensures)
+returns-5 c = let b = c .before .before .before .before .before .before .before .before .before .before .args .bytes .now in
+    shown-message b (c .before .before .before .before .before .before .before .before .if1 .left) (c .before .before .before .before .before .before .before .if2 .left) (c .before .before .before .before .before .before .if3 .left) _ _ (c .before .before .before .before .before .object-at .ensures) (c .before .before .before .before .header-refusal .ensures) (c .before .before .before .if4 .left) _ _ _
+    (c .before .before .edition-said .ensures) (c .before .head-of .ensures) (c .objects-in .ensures)
 
 pub read-spec : {M : Type 1} → statement M
 read-spec =
@@ -72,8 +75,9 @@ read-spec =
     header-refusal-requires
     refused-requires-4
     returns-4
+    edition-said-requires
     head-of-requires
-    sub-t9
+    sub-t10
     cast-t7
     objects-in-requires
     returns-5)

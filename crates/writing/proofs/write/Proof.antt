@@ -1,6 +1,6 @@
 use Prim.Native.Nat.{_≤_}
 use lib.ListN.{length}
-use Rattle.messages.specs.Layout.{messageBytes}
+use Rattle.messages.specs.Layout.{messageLength}
 -- `write` meets its promise: its ways out are the definition's, and nothing is stored before the last test.
 use mathlib.Core.Path.{_∙_, ap, sym}
 use Prim.Native.Nat.{ℕ}
@@ -9,13 +9,13 @@ use lib.Seq.{sets}
 use Rattle.messages.specs.Layout.{Message, bytesOfObject}
 use Rattle.messages.specs.Writing.{wellShaped}
 use Rattle.messages.proofs.Rule.{shape-command, shape-kind, shape-position}
-use Rattle.messages.proofs.Stores.{length-message, store-message, write-shape, write-short, write-whole, shape-many}
+use Rattle.messages.proofs.Stores.{store-message, write-shape, write-short, write-whole, shape-many}
 use borrow.Author.Needs.{needs}
 use Rattle.writing.proofs.write.Statement.{statement}
 use Rattle.writing.proofs.write.Tie as tie
 
 returns : tie.Need-returns
-returns c = write-shape _ (c .before .before .before .args .out .now) (shape-many _ (c .if1 .taken))
+returns c = write-shape (c .before .before .before .args .edition) _ (c .before .before .before .args .out .now) (shape-many _ (c .if1 .taken))
 
 add-shape : tie.Need-add-shape
 add-shape c = search needs
@@ -35,7 +35,7 @@ add-if3 c = search needs
 returns-2 : tie.Need-returns-2
 unfolding wellShaped
 returns-2 c = let m : Message = record { head = c .before .before .before .before .before .before .args .head; objects = c .before .before .before .before .before .before .args .objects .now } in
-    write-short m (c .before .before .before .before .before .before .args .out .now) (sym (c .before .before .shape .ensures) ∙ c .before .if2 .taken) (omega (arith, length-message m))
+    write-short (c .before .before .before .before .before .before .args .edition) m (c .before .before .before .before .before .before .args .out .now) (sym (c .before .before .shape .ensures) ∙ c .before .if2 .taken) (omega (arith, c .if3 .taken))
 
 header-of-requires : tie.Need-header-of-requires
 header-of-requires c κs = let h = c .before .before .before .before .before .before .before .args .head in
@@ -55,14 +55,14 @@ returns-3 : tie.Need-returns-3
 unfolding wellShaped
 returns-3 c = let m : Message = record { head = c .before .before .before .before .before .before .before .before .before .before .before .before .before .before .before .args .head; objects = c .before .before .before .before .before .before .before .before .before .before .before .before .before .before .before .args .objects .now } in
     let out = c .before .before .before .before .before .before .before .before .before .before .before .before .before .before .before .args .out .now in
-    let room : length (messageBytes m) ≤ length out = omega (arith, length-message m) in
-    write-whole m out (sym (c .before .before .before .before .before .before .before .before .before .before .before .shape .ensures) ∙ c .before .before .before .before .before .before .before .before .before .before .if2 .taken) room _
-    (store-message m out _ _ room (c .before .before .before .before .before .before .put-object .ensures ∙ ap (λ (w : ℕ). sets out 0 (bytesOfObject w)) (c .before .before .before .before .before .before .before .header-of .ensures)) (c .before .before .put-objects .ensures))
+    let room : messageLength m ≤ length out = omega (arith, c .before .before .before .before .before .before .before .before .before .if3 .left) in
+    write-whole (c .before .before .before .before .before .before .before .before .before .before .before .before .before .before .before .args .edition) m out (sym (c .before .before .before .before .before .before .before .before .before .before .before .shape .ensures) ∙ c .before .before .before .before .before .before .before .before .before .before .if2 .taken) room _
+    (store-message (c .before .before .before .before .before .before .before .before .before .before .before .before .before .before .before .args .edition) m out _ _ room (c .before .before .before .before .before .before .put-object .ensures ∙ ap (λ (w : ℕ). sets out 0 (bytesOfObject w)) (c .before .before .before .before .before .before .before .header-of .ensures)) (c .before .before .put-objects .ensures))
 
 returns-4 : tie.Need-returns-4
 unfolding wellShaped
 returns-4 c = let m : Message = record { head = c .before .before .before .before .before .args .head; objects = c .before .before .before .before .before .args .objects .now } in
-    write-shape m (c .before .before .before .before .before .args .out .now) (sym (c .before .shape .ensures) ∙ c .if2 .left)
+    write-shape (c .before .before .before .before .before .args .edition) m (c .before .before .before .before .before .args .out .now) (sym (c .before .shape .ensures) ∙ c .if2 .left)
 
 pub write-spec : {M : Type 1} → statement M
 write-spec =

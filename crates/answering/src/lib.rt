@@ -1,4 +1,5 @@
-// The dock end answers a request as policy says: document 01, "The dock end". The state is that of `dock`.
+// The dock end answers a request as policy says, at the edition that the request has set: document 01, "The dock end"; document 02, R-5. The state is that of
+// `dock`.
 ghost use Rattle.dock.specs.Dock.{giveIdentity, givePage, giveModes, giveOther, declined, decidePolicy, decidePolicyAnswer, Stepped};
 use dock::Dock;
 use dock::Policy;
@@ -29,8 +30,10 @@ fn give_identity(dock: Dock, request: Request, out: &mut [u8]) -> Step
         return refused(10, dock);
     }
     let identity = dock.identity;
+    let edition = dock.edition;
     send(
         dock,
+        edition,
         request,
         ACK,
         first_objects(&identity, n as usize),
@@ -43,14 +46,16 @@ fn give_page(dock: Dock, request: Request, out: &mut [u8]) -> Step
     ensures { λ r. ⌜ Stepped dock (givePage dock request) (now (out .entry)) r (now (out .exit)) ⌝ }
 {
     let svids = dock.svids;
+    let edition = dock.edition;
     let list = first_svids(&svids, dock.count as usize);
     if list.len() == 0 {
-        return send_bare(dock, request, NAK, out);
+        return send_bare(dock, edition, request, NAK, out);
     }
     let page = pages::make_page(list, dock.page);
     let n = page.count as usize;
     send(
         dock,
+        edition,
         request,
         ACK,
         first_objects(&page.objects, n),
@@ -68,7 +73,8 @@ fn give_modes(dock: Dock, request: Request, objects: &[u32], out: &mut [u8]) -> 
     if 6 < objects.len() {
         return refused(10, dock);
     }
-    send(dock, request, ACK, objects, false, out)
+    let edition = dock.edition;
+    send(dock, edition, request, ACK, objects, false, out)
 }
 
 fn give_other(dock: Dock, request: Request, out: &mut [u8]) -> Step
@@ -80,7 +86,8 @@ fn give_other(dock: Dock, request: Request, out: &mut [u8]) -> Step
     if request.command == SVIDS {
         return give_page(dock, request, out);
     }
-    send_bare(dock, request, ACK, out)
+    let edition = dock.edition;
+    send_bare(dock, edition, request, ACK, out)
 }
 
 fn give(dock: Dock, request: Request, objects: &[u32], out: &mut [u8]) -> Step
@@ -101,7 +108,8 @@ fn decline(dock: Dock, request: Request, kind: u8, objects: &[u32], out: &mut [u
     if 0 < objects.len() {
         return refused(10, dock);
     }
-    send_bare(dock, request, kind, out)
+    let edition = dock.edition;
+    send_bare(dock, edition, request, kind, out)
 }
 
 // Policy's answer to the request that it names: refused 9 if it names another or none is waiting, then 10, then 11.

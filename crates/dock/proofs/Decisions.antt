@@ -13,10 +13,11 @@ use Rattle.laws.proofs.Lines.{and-left, and-right}
 use Rattle.messages.specs.Layout.{req, ack, nak, Message}
 use Rattle.messages.specs.Reading.{Outcome, accepted, refused}
 use Rattle.messages.specs.declared.Head.{Head}
+use Rattle.messages.specs.declared.edition.Edition.{Edition}
 use Rattle.pages.specs.Pages.{remaining, page, isLast}
 use Rattle.pages.specs.Lists.{soundList}
 use Rattle.dock.specs.Data.{listed, goodIdentity, goodData, loaded, withPage, withStanding}
-use Rattle.dock.specs.Dock.{refuses, accepts, sends, decideLoad, reply, asking, sending, decideRequest, decideMessage, isEmpty, givePage, giveIdentity, giveModes, giveOther, bare, declined, decidePolicy, decidePolicyAnswer, moved, decideSent, decideFailed}
+use Rattle.dock.specs.Dock.{refuses, accepts, sends, decideLoad, reply, asking, sending, decideRequest, spokenTo, decideMessage, isEmpty, givePage, giveIdentity, giveModes, giveOther, bare, declined, decidePolicy, decidePolicyAnswer, moved, decideSent, decideFailed}
 use Rattle.messages.specs.Requests.{attentionCommand, requestOf, sameRequest}
 use Rattle.dock.specs.declared.Dock.{Dock}
 use Rattle.dock.specs.declared.Policy.{Policy}
@@ -27,11 +28,12 @@ use Rattle.dock.specs.declared.Standing.the-variants.{Ready, Asking, Sen
 use Rattle.dock.proofs.Standing.{the-type}
 
 -- loading
-pub load-standing : (s : Standing) (identity svids : List ℕ) → OneOf (1 ∷ 2 ∷ []) (tagOf the-type s) → decideLoad s identity svids ≡ refuses 9
+pub load-standing : (d : Dock) (s : Standing) (identity svids : List ℕ) → OneOf (1 ∷ 2 ∷ []) (tagOf the-type s) →
+    decideLoad d s identity svids ≡ refuses 9
 unfolding decideLoad
-load-standing Ready identity svids k = absurd (miss (1 ∷ 2 ∷ []) 0 tt k)
-load-standing (Asking request) identity svids k = refl
-load-standing (Sending isPage) identity svids k = refl
+load-standing d Ready identity svids k = absurd (miss (1 ∷ 2 ∷ []) 0 tt k)
+load-standing d (Asking request) identity svids k = refl
+load-standing d (Sending isPage) identity svids k = refl
 
 module _ (identity svids : List ℕ) where
   pub data-few : length identity < 3 → false ≡ goodData identity svids
@@ -58,13 +60,14 @@ module _ (identity svids : List ℕ) where
         leb-true _ _ (and-left (leb (length svids) 72) _ rest),
       )
 
-  pub load-good : (s : Standing) → s ≡ Ready → goodData identity svids ≡ true → decideLoad s identity svids ≡ accepts (loaded identity svids)
+  pub load-good : (d : Dock) (s : Standing) → s ≡ Ready → goodData identity svids ≡ true →
+      decideLoad d s identity svids ≡ accepts (loaded (d .edition) identity svids)
   unfolding decideLoad
-  load-good s e good = ap (λ (x : Standing). decideLoad x identity svids) e ∙ rw good
+  load-good d s e good = ap (λ (x : Standing). decideLoad d x identity svids) e ∙ rw good
 
-  pub load-bad : (s : Standing) → s ≡ Ready → goodData identity svids ≡ false → decideLoad s identity svids ≡ refuses 10
+  pub load-bad : (d : Dock) (s : Standing) → s ≡ Ready → goodData identity svids ≡ false → decideLoad d s identity svids ≡ refuses 10
   unfolding decideLoad
-  load-bad s e bad = ap (λ (x : Standing). decideLoad x identity svids) e ∙ rw bad
+  load-bad d s e bad = ap (λ (x : Standing). decideLoad d x identity svids) e ∙ rw bad
 
 -- a request, and a message
 module _ (r : Request) (d : Dock) where
@@ -93,12 +96,12 @@ module _ (d : Dock) (o : Outcome) where
   unfolding decideMessage
   message-refused number e = ap (decideMessage d) e
 
-  module _ (m : Message) (h : Head) (e : o ≡ accepted m) (eh : m .head ≡ h) where
-    by-head : decideMessage d o ≡ cond (eqb (h .kind) req && not (eqb (h .command) attentionCommand)) (decideRequest d (requestOf h)) (refuses 6)
+  module _ (at : Edition) (m : Message) (h : Head) (e : o ≡ accepted at m) (eh : m .head ≡ h) where
+    by-head : decideMessage d o ≡ cond (eqb (h .kind) req && not (eqb (h .command) attentionCommand)) (decideRequest (spokenTo at d) (requestOf h)) (refuses 6)
     unfolding decideMessage
     by-head =
         ap (decideMessage d) e ∙
-        ap (λ (x : Head). cond (eqb (x .kind) req && not (eqb (x .command) attentionCommand)) (decideRequest d (requestOf x)) (refuses 6)) eh
+        ap (λ (x : Head). cond (eqb (x .kind) req && not (eqb (x .command) attentionCommand)) (decideRequest (spokenTo at d) (requestOf x)) (refuses 6)) eh
 
     pub message-answer : (h .kind ≡ 0 → ⊥) → decideMessage d o ≡ refuses 6
     message-answer k = by-head ∙ rw (ne-eqb _ _ k)
@@ -106,7 +109,7 @@ module _ (d : Dock) (o : Outcome) where
     pub message-attention : h .kind ≡ 0 → h .command ≡ 6 → decideMessage d o ≡ refuses 6
     message-attention k c = by-head ∙ rw (eq-eqb _ _ k, eq-eqb _ _ c)
 
-    pub message-request : h .kind ≡ 0 → (h .command ≡ 6 → ⊥) → decideMessage d o ≡ decideRequest d (requestOf h)
+    pub message-request : h .kind ≡ 0 → (h .command ≡ 6 → ⊥) → decideMessage d o ≡ decideRequest (spokenTo at d) (requestOf h)
     message-request k c = by-head ∙ rw (eq-eqb _ _ k, ne-eqb _ _ c)
 
 -- policy's answer

@@ -12,15 +12,17 @@ use borrow.Author.Tests.{ltb-false, leb-true}
 use Rattle.laws.specs.Padded.{padded}
 use Rattle.laws.proofs.Lines.{and-left, and-right}
 use Rattle.laws.proofs.Padded.{padded-at}
-use Rattle.messages.specs.Layout.{req, nak, Message, messageBytes}
+use Rattle.messages.specs.Editions.{ours, lower}
+use Rattle.messages.specs.Layout.{req, nak, Message, messageLength}
 use Rattle.messages.specs.Table.{shape, oneToFive}
 use Rattle.messages.specs.Reading.{Outcome, accepted, refused}
 use Rattle.messages.specs.Writing.{wellShaped, writeRefusal}
 use Rattle.messages.specs.declared.Head.{Head}
+use Rattle.messages.specs.declared.edition.Edition.{Edition}
 use Rattle.pages.specs.Pages.{remaining, isLast}
 use Rattle.pages.specs.Lists.{soundList}
-use Rattle.dock.specs.Data.{listed, goodIdentity, goodData, freshDock, loaded, withPage, withStanding}
-use Rattle.dock.specs.Dock.{Decision, refuses, accepts, sends, refusedBy, acceptedBy, stepOf, decideLoad, reply, asking, sending, decideRequest, decideMessage, isEmpty, givePage, giveIdentity, giveModes, giveOther, bare, decidePolicy, decidePolicyAnswer, moved, decideSent, decideFailed}
+use Rattle.dock.specs.Data.{listed, goodIdentity, goodData, freshDock, loaded, withPage, withStanding, withEdition}
+use Rattle.dock.specs.Dock.{Decision, refuses, accepts, sends, refusedBy, acceptedBy, stepOf, decideLoad, reply, asking, sending, decideRequest, spokenTo, decideMessage, isEmpty, givePage, giveIdentity, giveModes, giveOther, bare, decidePolicy, decidePolicyAnswer, moved, decideSent, decideFailed}
 use Rattle.messages.specs.Requests.{identityCommand, svidsCommand, modesCommand, attentionCommand, requestOf, sameRequest}
 use Rattle.dock.specs.Sound.{Asked, Sound}
 use Rattle.dock.specs.declared.Dock.{Dock}
@@ -44,9 +46,9 @@ fresh-sound =
       asked-sound = tt;
     }
 
-pub loaded-sound : (identity svids : List ℕ) → goodData identity svids ≡ true → Sound (loaded identity svids)
+pub loaded-sound : (at : Edition) (identity svids : List ℕ) → goodData identity svids ≡ true → Sound (loaded at identity svids)
 unfolding goodData loaded
-loaded-sound identity svids good =
+loaded-sound at identity svids good =
     let rest = and-right (goodIdentity (length identity)) _ good in
     let there : length identity ≤ length (padded identity) = omega (arith, data-fits identity svids good .0, ap length (sym (padded-at identity))) in
     let list : take (length svids) (svids ++ _) ≡ svids = take-append-seam svids _ in
@@ -80,6 +82,17 @@ module _ (d : Dock) (sound : Sound d) where
         list-sound = sound .list-sound;
         page-fits = h;
         asked-sound = asked;
+      }
+
+  pub edition-sound : (at : Edition) → Sound (withEdition at d)
+  edition-sound at =
+      record {
+        identity-sound = sound .identity-sound;
+        identity-there = sound .identity-there;
+        count-fits = sound .count-fits;
+        list-sound = sound .list-sound;
+        page-fits = sound .page-fits;
+        asked-sound = sound .asked-sound;
       }
 
   pub asking-sound : (r : Request) → Asked (Asking r) → Sound (asking r d)
@@ -121,32 +134,32 @@ either : (t : Bool) (a b : Decision) → SoundIn a → SoundIn b → SoundIn (co
 either true a b sa sb = sa
 either false a b sa sb = sb
 
-pub load-sound : (s : Standing) (identity svids : List ℕ) → SoundIn (decideLoad s identity svids)
+pub load-sound : (d : Dock) (s : Standing) (identity svids : List ℕ) → SoundIn (decideLoad d s identity svids)
 unfolding decideLoad
-load-sound Ready identity svids = go (goodData identity svids) refl
+load-sound d Ready identity svids = go (goodData identity svids) refl
   where
-    go : (t : Bool) → goodData identity svids ≡ t → SoundIn (cond t (accepts (loaded identity svids)) (refuses 10))
-    go true e = loaded-sound identity svids e
+    go : (t : Bool) → goodData identity svids ≡ t → SoundIn (cond t (accepts (loaded (d .edition) identity svids)) (refuses 10))
+    go true e = loaded-sound (d .edition) identity svids e
     go false e = tt
-load-sound (Asking request) identity svids = tt
-load-sound (Sending isPage) identity svids = tt
+load-sound d (Asking request) identity svids = tt
+load-sound d (Sending isPage) identity svids = tt
+
+-- a request that a message has
+request-sound : (d : Dock) → Sound d → (h : Head) (count : ℕ) → shape h count ≡ true → SoundIn (decideRequest d (requestOf h))
+unfolding decideRequest
+request-sound d sound h count good = go (oneToFive (h .command)) refl
+  where
+    go : (t : Bool) → oneToFive (h .command) ≡ t → SoundIn (cond t (accepts (asking (requestOf h) d)) (sends (reply (requestOf h) nak []) (sending false d)))
+    go true e = asking-sound d sound (requestOf h) (e, request-shape h count good e)
+    go false e = sending-sound d sound false
 
 module _ (d : Dock) (sound : Sound d) where
-  -- a request that a message has
-  request-sound : (h : Head) (count : ℕ) → shape h count ≡ true → SoundIn (decideRequest d (requestOf h))
-  unfolding decideRequest
-  request-sound h count good = go (oneToFive (h .command)) refl
-    where
-      go : (t : Bool) → oneToFive (h .command) ≡ t → SoundIn (cond t (accepts (asking (requestOf h) d)) (sends (reply (requestOf h) nak []) (sending false d)))
-      go true e = asking-sound d sound (requestOf h) (e, request-shape h count good e)
-      go false e = sending-sound d sound false
-
-  pub message-sound : (o : Outcome) → ((m : Message) → o ≡ accepted m → wellShaped m ≡ true) → SoundIn (decideMessage d o)
+  pub message-sound : (o : Outcome) → ((at : Edition) (m : Message) → o ≡ accepted at m → wellShaped m ≡ true) → SoundIn (decideMessage d o)
   unfolding decideMessage wellShaped
   message-sound (refused number) good = tt
-  message-sound (accepted m) good =
+  message-sound (accepted at m) good =
       either (eqb (m .head .kind) req && not (eqb (m .head .command) attentionCommand)) _ _
-      (request-sound (m .head) (length (m .objects) + 1) (good m refl)) tt
+      (request-sound (spokenTo at d) (edition-sound d sound (lower at ours)) (m .head) (length (m .objects) + 1) (good at m refl)) tt
 
   module _ (r : Request) where
     sent-sound : (isPage : Bool) → Sound (sending isPage d)
@@ -200,6 +213,6 @@ module _ (d : Dock) (sound : Sound d) where
   kept (accepts next) s room = s
   kept (sends m next) s room = go (eqb (writeRefusal m room) 0)
     where
-      go : (t : Bool) → Sound ((cond t (acceptedBy (length (messageBytes m)) next) (refusedBy (writeRefusal m room) d)) .dock)
+      go : (t : Bool) → Sound ((cond t (acceptedBy (messageLength m) next) (refusedBy (writeRefusal m room) d)) .dock)
       go true = s
       go false = sound

@@ -8,7 +8,7 @@ use lib.Dec.{leb, eqb}
 use lib.ListN.{length}
 use borrow.Author.Tests.{le-leb}
 use Rattle.laws.specs.Bounded.{Below}
-use Rattle.messages.specs.Layout.{ack, Message, messageBytes}
+use Rattle.messages.specs.Layout.{ack, Message, messageBytes, messageLength}
 use Rattle.messages.specs.Table.{pdSid, rowOf, countsOf, fits, shape}
 use Rattle.messages.specs.Reading.{accepted, readOutcome}
 use Rattle.messages.specs.Writing.{wellShaped, writeRefusal, written}
@@ -23,14 +23,15 @@ use Rattle.messages.specs.Requests.{svidsCommand}
 use Rattle.dock.specs.Sound.{Sound}
 use Rattle.dock.specs.declared.Dock.{Dock}
 use Rattle.dock.specs.declared.Policy.{Policy}
+use Rattle.messages.specs.declared.edition.Edition.{Edition}
 use Rattle.messages.specs.declared.request.Request.{Request}
 use Rattle.dock.specs.declared.Step.{Step}
 use Rattle.dock.proofs.Kept.{load-sound, message-sound, answer-sound, confirmed-sound, kept}
 
 -- a dock that meets 01's limits meets them after each call
 module _ (d : Dock) (sound : Sound d) where
-  pub load-keeps : (identity svids : List ℕ) → Sound (stepOf d (decideLoad (d .standing) identity svids) 0 .dock)
-  load-keeps identity svids = kept d sound (decideLoad (d .standing) identity svids) (load-sound (d .standing) identity svids) 0
+  pub load-keeps : (identity svids : List ℕ) → Sound (stepOf d (decideLoad d (d .standing) identity svids) 0 .dock)
+  load-keeps identity svids = kept d sound (decideLoad d (d .standing) identity svids) (load-sound d (d .standing) identity svids) 0
 
   pub message-keeps : (bytes : List ℕ) (room : ℕ) → Sound (stepOf d (decideMessage d (readOutcome bytes)) room .dock)
   message-keeps bytes room = kept d sound (decideMessage d (readOutcome bytes)) (message-sound d sound (readOutcome bytes) (read-shape bytes)) room
@@ -47,12 +48,12 @@ module _ (d : Dock) (sound : Sound d) where
   failed-keeps = kept d sound (decideFailed d (d .standing)) (confirmed-sound d sound (d .standing) .1) 0
 
 -- a refusal sends nothing, leaves the state as it was and changes no lent byte
-left-alone : (m : Message) (out : List ℕ) → eqb (writeRefusal m (length out)) 0 ≡ false → written m out ≡ out
+left-alone : (at : Edition) (m : Message) (out : List ℕ) → eqb (writeRefusal m (length out)) 0 ≡ false → written at m out ≡ out
 unfolding written
-left-alone m out e = rw e
+left-alone at m out e = rw e
 
 abbrev sendStep : Dock → Dock → Message → ℕ → Bool → Step
-sendStep d next m room t = cond t (acceptedBy (length (messageBytes m)) next) (refusedBy (writeRefusal m room) d)
+sendStep d next m room t = cond t (acceptedBy (messageLength m) next) (refusedBy (writeRefusal m room) d)
 
 pub refusal-leaves : (d : Dock) (decision : Decision) (out : List ℕ) → (stepOf d decision (length out) .refusal ≡ 0 → ⊥) →
     (stepOf d decision (length out) ≡ refusedBy (stepOf d decision (length out) .refusal) d) × (bufferOf decision out ≡ out)
@@ -62,16 +63,16 @@ refusal-leaves d (accepts next) out h = absurd (h refl)
 refusal-leaves d (sends m next) out h = go (eqb (writeRefusal m (length out)) 0) refl h
   where
     go : (t : Bool) → eqb (writeRefusal m (length out)) 0 ≡ t → (sendStep d next m (length out) t .refusal ≡ 0 → ⊥) →
-        (sendStep d next m (length out) t ≡ refusedBy (sendStep d next m (length out) t .refusal) d) × (written m out ≡ out)
+        (sendStep d next m (length out) t ≡ refusedBy (sendStep d next m (length out) t .refusal) d) × (written (next .edition) m out ≡ out)
     go true e n = absurd (n refl)
-    go false e n = (refl, left-alone m out e)
+    go false e n = (refl, left-alone (next .edition) m out e)
 
 -- a result that a promise allows is the only one
 pub step-only : (d : Dock) (decision : Decision) (out : List ℕ) (s s′ : Step) (after after′ : List ℕ) →
     Stepped d decision out s after → Stepped d decision out s′ after′ → (s ≡ s′) × (after ≡ after′)
 step-only d decision out s s′ after after′ p p′ = (p .step-is ∙ sym (p′ .step-is), p .buffer-is ∙ sym (p′ .buffer-is))
 
--- every page is a message that reading accepts
+-- every page is a message that reading accepts, at the edition at which it is sent
 abbrev pub pageMessage : List ℕ → Message
 pageMessage objects = reply (record { svid = pdSid; command = svidsCommand; position = 0 }) ack objects
 
@@ -82,10 +83,10 @@ page-shape objects l m =
     let most : leb (length objects + 1) 7 ≡ true = le-leb (length objects + 1) 7 (omega arith) in
     rw (least, most)
 
-pub page-accepted : (list : List ℕ) (p : ℕ) → Below (2 ^ 16) list →
-    readOutcome (messageBytes (pageMessage (page list p))) ≡ accepted (pageMessage (page list p))
-page-accepted list p b =
-    read-bytes (pageMessage (page list p)) (record { svid-fits = omega arith; objects-fit = page-below list p b })
+pub page-accepted : (at : Edition) (list : List ℕ) (p : ℕ) → Below (2 ^ 16) list →
+    readOutcome (messageBytes at (pageMessage (page list p))) ≡ accepted at (pageMessage (page list p))
+page-accepted at list p b =
+    read-bytes at (pageMessage (page list p)) (record { svid-fits = omega arith; objects-fit = page-below list p b })
     (page-shape (page list p) (page-size list p .0) (page-size list p .1))
 
 -- the pages of a sound dock, read off in order, are its list

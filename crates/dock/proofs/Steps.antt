@@ -2,16 +2,16 @@
 use mathlib.Core.Path.{_≡_, ap, subst, sym, _∙_}
 use mathlib.Core.Bool.{true}
 use mathlib.Core.List.{List}
-use Prim.Native.Nat.{ℕ, _+_, _*_, _≤_}
+use Prim.Native.Nat.{ℕ, _+_, _≤_}
 use native.Mathlib.Omega.{arith}
 use lib.ListN.{length}
 use borrow.Author.Tests.{ne-eqb}
-use Rattle.messages.specs.Layout.{Message}
+use Rattle.messages.specs.Layout.{Message, messageLength}
 use Rattle.messages.specs.Writing.{wellShaped, writeRefusal, Written}
 use Rattle.messages.specs.declared.Head.{Head}
+use Rattle.messages.specs.declared.edition.Edition.{Edition}
 use Rattle.messages.proofs.Laws.{write-accepted}
 use Rattle.messages.proofs.Rule.{shape-count}
-use Rattle.messages.proofs.Stores.{length-message}
 use Rattle.dock.specs.Dock.{Decision, refuses, accepts, sends, refusedBy, acceptedBy, stepOf, bufferOf, Stepped}
 use Rattle.dock.specs.declared.Dock.{Dock}
 use Rattle.dock.specs.declared.Step.{Step}
@@ -44,7 +44,7 @@ same d decision other out s after e stepped =
     }
 
 -- a message handed over, or refused by the buffer
-module _ (d next : Dock) (m : Message) (out after : List ℕ) (number : ℕ) (w : Written m out number after) where
+module _ (d next : Dock) (m : Message) (out after : List ℕ) (number : ℕ) (w : Written (next .edition) m out number after) where
   pub send-refused : (s : Step) → (number ≡ 0 → ⊥) → s ≡ refusedBy number d → Stepped d (sends m next) out s after
   unfolding stepOf bufferOf
   send-refused s h is =
@@ -57,14 +57,14 @@ module _ (d next : Dock) (m : Message) (out after : List ℕ) (number : ℕ) (w 
       let good : wellShaped m ≡ true = write-accepted m (length out) .0 (sym (w .number-is) ∙ z) .0 in
       omega (arith, shape-count (m .head) (length (m .objects) + 1) good .1)
 
-  pub send-whole : (s : Step) (other : Dock) → number ≡ 0 → s ≡ acceptedBy (length (m .objects) * 4 + 4) other → other ≡ next →
+  pub send-whole : (s : Step) (other : Dock) → number ≡ 0 → s ≡ acceptedBy (messageLength m) other → other ≡ next →
       Stepped d (sends m next) out s after
   unfolding stepOf bufferOf
   send-whole s other z is e′ =
       let e : writeRefusal m (length out) ≡ 0 = sym (w .number-is) ∙ z in
-      record { step-is = is ∙ rw (e, length-message m, e′); buffer-is = w .buffer-is }
+      record { step-is = is ∙ rw (e, e′); buffer-is = w .buffer-is }
 
-pub written-head : (h h′ : Head) (objects out : List ℕ) (number : ℕ) (after : List ℕ) → h ≡ h′ →
-    Written (record { head = h; objects = objects }) out number after → Written (record { head = h′; objects = objects }) out number after
-written-head h h′ objects out number after e w =
-    subst (λ (x : Head). Written (record { head = x; objects = objects }) out number after) e w
+pub written-head : (at : Edition) (h h′ : Head) (objects out : List ℕ) (number : ℕ) (after : List ℕ) → h ≡ h′ →
+    Written at (record { head = h; objects = objects }) out number after → Written at (record { head = h′; objects = objects }) out number after
+written-head at h h′ objects out number after e w =
+    subst (λ (x : Head). Written at (record { head = x; objects = objects }) out number after) e w

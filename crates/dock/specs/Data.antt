@@ -5,6 +5,8 @@ use mathlib.Core.List.{List, _++_}
 use lib.Dec.{leb}
 use lib.ListN.{length, take, replicate}
 use Rattle.laws.specs.Padded.{padded}
+use Rattle.messages.specs.Editions.{ours}
+use Rattle.messages.specs.declared.edition.Edition.{Edition}
 use Rattle.pages.specs.Lists.{mostSvids, soundList}
 use Rattle.dock.specs.declared.Dock.{Dock}
 use Rattle.dock.specs.declared.Standing.{Standing}
@@ -25,7 +27,7 @@ goodData identity svids = goodIdentity (length identity) && (leb (length svids) 
 abbrev pub inArray : List ℕ → List ℕ
 inArray list = list ++ replicate (mostSvids - length list) 0
 
--- unloaded, the list and the identity are empty
+-- unloaded, the list and the identity are empty; no answer has been sent, so its edition is never seen
 unfoldable pub freshDock : Dock
 freshDock =
     record {
@@ -34,17 +36,20 @@ freshDock =
       svids = replicate 72 0;
       count = 0;
       page = 0;
+      edition = ours;
       standing = Ready;
     }
 
-unfoldable pub loaded : List ℕ → List ℕ → Dock
-loaded identity svids =
+-- loading leaves the edition
+unfoldable pub loaded : Edition → List ℕ → List ℕ → Dock
+loaded edition identity svids =
     record {
       identity = padded identity;
       extent = length identity;
       svids = inArray svids;
       count = length svids;
       page = 0;
+      edition = edition;
       standing = Ready;
     }
 
@@ -57,6 +62,7 @@ withPage p d =
       svids = d .svids;
       count = d .count;
       page = p;
+      edition = d .edition;
       standing = d .standing;
     }
 
@@ -68,5 +74,18 @@ withStanding s d =
       svids = d .svids;
       count = d .count;
       page = d .page;
+      edition = d .edition;
       standing = s;
+    }
+
+abbrev pub withEdition : Edition → Dock → Dock
+withEdition e d =
+    record {
+      identity = d .identity;
+      extent = d .extent;
+      svids = d .svids;
+      count = d .count;
+      page = d .page;
+      edition = e;
+      standing = d .standing;
     }

@@ -1,18 +1,20 @@
--- The dock's calls, rule by rule (01, "The dock end").
+-- The dock's calls, rule by rule (01, "The dock end"; 02, R-5).
 use mathlib.Core.Path.{_≡_}
 use Prim.Native.Nat.{ℕ, _+_}
 use mathlib.Core.Bool.{Bool, true, false, cond, not, _&&_}
 use mathlib.Core.List.{List, [], _∷_}
 use lib.Dec.{leb, eqb}
 use lib.ListN.{length, take}
-use Rattle.messages.specs.Layout.{req, ack, nak, busy, Message, messageBytes}
+use Rattle.messages.specs.Editions.{ours, lower}
+use Rattle.messages.specs.Layout.{req, ack, nak, busy, Message, messageLength}
 use Rattle.messages.specs.Requests.{identityCommand, svidsCommand, modesCommand, attentionCommand, requestOf, headFor, sameRequest}
 use Rattle.messages.specs.Table.{oneToFive}
 use Rattle.messages.specs.Reading.{Outcome, accepted, refused}
 use Rattle.messages.specs.Writing.{writeRefusal, written}
+use Rattle.messages.specs.declared.edition.Edition.{Edition}
 use Rattle.messages.specs.declared.request.Request.{Request}
 use Rattle.pages.specs.Pages.{page, isLast}
-use Rattle.dock.specs.Data.{listed, goodIdentity, goodData, loaded, withPage, withStanding}
+use Rattle.dock.specs.Data.{listed, goodIdentity, goodData, loaded, withPage, withStanding, withEdition}
 use Rattle.dock.specs.declared.Dock.{Dock}
 use Rattle.dock.specs.declared.Policy.{Policy}
 use Rattle.dock.specs.declared.Policy.the-variants.{Give, Nak, Busy}
@@ -21,7 +23,7 @@ use Rattle.dock.specs.declared.Standing.the-variants.{Ready, Asking, Sen
 use Rattle.dock.specs.declared.Step.{Step}
 
 -- what a call decides before the output buffer is looked at: a refusal; a new state with nothing to send; a message, and the state once it
--- is handed over
+-- is handed over, whose edition is the message's
 pub data Decision : Type 0 where
   refuses : ℕ → Decision
   accepts : Dock → Decision
@@ -38,13 +40,13 @@ unfoldable pub stepOf : Dock → Decision → ℕ → Step
 stepOf d (refuses number) room = refusedBy number d
 stepOf d (accepts next) room = acceptedBy 0 next
 stepOf d (sends m next) room =
-    cond (eqb (writeRefusal m room) 0) (acceptedBy (length (messageBytes m)) next)
+    cond (eqb (writeRefusal m room) 0) (acceptedBy (messageLength m) next)
     (refusedBy (writeRefusal m room) d)
 
 unfoldable pub bufferOf : Decision → List ℕ → List ℕ
 bufferOf (refuses number) out = out
 bufferOf (accepts next) out = out
-bufferOf (sends m next) out = written m out
+bufferOf (sends m next) out = written (next .edition) m out
 
 -- what a call promises: the refusal, the bytes to send and the state in one, and the whole buffer
 pub record Stepped (d : Dock) (decision : Decision) (out : List ℕ) (step : Step) (after : List ℕ) : Type 0 where
@@ -52,10 +54,10 @@ pub record Stepped (d : Dock) (decision : Decision) (out : List ℕ) (step : Ste
   pub buffer-is : after ≡ bufferOf decision out
 
 -- loading: 9 unless ready, then 10
-unfoldable pub decideLoad : Standing → List ℕ → List ℕ → Decision
-decideLoad Ready identity svids = cond (goodData identity svids) (accepts (loaded identity svids)) (refuses 10)
-decideLoad (Asking request) identity svids = refuses 9
-decideLoad (Sending isPage) identity svids = refuses 9
+unfoldable pub decideLoad : Dock → Standing → List ℕ → List ℕ → Decision
+decideLoad d Ready identity svids = cond (goodData identity svids) (accepts (loaded (d .edition) identity svids)) (refuses 10)
+decideLoad d (Asking request) identity svids = refuses 9
+decideLoad d (Sending isPage) identity svids = refuses 9
 
 -- an answer repeats the request's SVID, command and position
 abbrev pub reply : Request → ℕ → List ℕ → Message
@@ -72,11 +74,15 @@ sending isPage d = withStanding (Sending isPage) d
 unfoldable pub decideRequest : Dock → Request → Decision
 decideRequest d r = cond (oneToFive (r .command)) (accepts (asking r d)) (sends (reply r nak []) (sending false d))
 
+-- a good request sets the edition of its answer: the lower of its own and ours
+abbrev pub spokenTo : Edition → Dock → Dock
+spokenTo e d = withEdition (lower e ours) d
+
 -- a message: 6 for what is not a REQ, and for Attention
 unfoldable pub decideMessage : Dock → Outcome → Decision
 decideMessage d (refused number) = refuses number
-decideMessage d (accepted m) =
-    cond (eqb (m .head .kind) req && not (eqb (m .head .command) attentionCommand)) (decideRequest d (requestOf (m .head))) (refuses 6)
+decideMessage d (accepted e m) =
+    cond (eqb (m .head .kind) req && not (eqb (m .head .command) attentionCommand)) (decideRequest (spokenTo e d) (requestOf (m .head))) (refuses 6)
 
 abbrev pub isEmpty : List ℕ → Bool
 isEmpty [] = true

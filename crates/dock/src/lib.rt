@@ -3,11 +3,13 @@
 mod replying;
 mod unloaded;
 
+use messages::Edition;
 use messages::Request;
 pub use replying::accepted;
 pub use replying::refused;
 pub use replying::send;
 pub use replying::send_bare;
+pub use replying::spoken_at;
 pub use replying::standing_at;
 pub use unloaded::fresh;
 
@@ -18,7 +20,8 @@ pub enum Standing {
     Sending(bool),
 }
 
-// The dock's data: identity objects and their extent, which is their number (0: not loaded); SVIDs, their count and the present page; and where it stands.
+// The dock's data: identity objects and their extent, which is their number (0: not loaded); SVIDs, their count and the present page; the edition of its
+// answer, which is known when ready too; and where it stands.
 // Numbers stand between the two arrays, and no gap before either: then the compiler sees that a copy of the whole has the very array that was lent, and
 // keeps no array of its own.
 pub struct Dock {
@@ -27,6 +30,7 @@ pub struct Dock {
     pub count: u8,
     pub svids: [u16; 72],
     pub page: u8,
+    pub edition: Edition,
     pub standing: Standing,
 }
 

@@ -3,6 +3,7 @@ ghost use mathlib.Core.Path.{_≡_};
 ghost use Rattle.dock.specs.Data.{freshDock};
 use crate::Dock;
 use crate::Standing;
+use messages::OURS;
 
 pub fn fresh() -> Dock
     ensures { λ r. ⌜ r ≡ freshDock ⌝ }
@@ -13,6 +14,7 @@ pub fn fresh() -> Dock
         svids: [0; 72],
         count: 0,
         page: 0,
+        edition: OURS,
         standing: Standing::Ready,
     }
 }

@@ -30,30 +30,30 @@ clash test a b c e f no-b yes-c = false≢true (sym no-b ∙ sym (ap test e) ∙
 module _ (d : Dock) (number : ℕ) (some : number ≡ 0 → ⊥) where
   -- loading
   module _ (identity svids : List ℕ) where
-    pub load-given : stepOf d (decideLoad (d .standing) identity svids) 0 .refusal ≡ number → GivenToLoad d identity svids number
+    pub load-given : stepOf d (decideLoad d (d .standing) identity svids) 0 .refusal ≡ number → GivenToLoad d identity svids number
     unfolding stepOf decideLoad
     load-given = go (d .standing) refl
       where
         data-given : (t : Bool) → goodData identity svids ≡ t → d .standing ≡ Ready →
-            stepOf d (cond t (accepts (loaded identity svids)) (refuses 10)) 0 .refusal ≡ number → GivenToLoad d identity svids number
+            stepOf d (cond t (accepts (loaded (d .edition) identity svids)) (refuses 10)) 0 .refusal ≡ number → GivenToLoad d identity svids number
         data-given true e ready h = absurd (some (sym h))
         data-given false e ready h = breaks-limits (sym h) ready (limits-exactly identity svids .0 e)
 
-        go : (s : Standing) → d .standing ≡ s → stepOf d (decideLoad s identity svids) 0 .refusal ≡ number → GivenToLoad d identity svids number
+        go : (s : Standing) → d .standing ≡ s → stepOf d (decideLoad d s identity svids) 0 .refusal ≡ number → GivenToLoad d identity svids number
         go Ready e h = data-given (goodData identity svids) refl e h
         go (Asking r) e h = not-ready (sym h) (λ z. clash isReady (d .standing) (Asking r) Ready e z refl refl)
         go (Sending isPage) e h = not-ready (sym h) (λ z. clash isReady (d .standing) (Sending isPage) Ready e z refl refl)
 
-    pub load-refused : GivenToLoad d identity svids number → stepOf d (decideLoad (d .standing) identity svids) 0 .refusal ≡ number
+    pub load-refused : GivenToLoad d identity svids number → stepOf d (decideLoad d (d .standing) identity svids) 0 .refusal ≡ number
     unfolding stepOf decideLoad
     load-refused (not-ready is none) = go (d .standing) refl
       where
-        go : (s : Standing) → d .standing ≡ s → stepOf d (decideLoad s identity svids) 0 .refusal ≡ number
+        go : (s : Standing) → d .standing ≡ s → stepOf d (decideLoad d s identity svids) 0 .refusal ≡ number
         go Ready e = absurd (none e)
         go (Asking r) e = sym is
         go (Sending isPage) e = sym is
     load-refused (breaks-limits is ready broken) =
-        ap (λ (x : Decision). stepOf d x 0 .refusal) (load-bad identity svids (d .standing) ready (limits-exactly identity svids .1 broken)) ∙ sym is
+        ap (λ (x : Decision). stepOf d x 0 .refusal) (load-bad identity svids d (d .standing) ready (limits-exactly identity svids .1 broken)) ∙ sym is
 
   -- "sent" and "failed"
   pub sent-given : stepOf d (decideSent d (d .standing)) 0 .refusal ≡ number → GivenToConfirmation d number

@@ -8,16 +8,16 @@ use native.Mathlib.Omega.{arith}
 use lib.Dec.{eqb}
 use lib.ListN.{length}
 use borrow.Author.Tests.{eq-eqb, le-ltb}
-use Rattle.messages.specs.Layout.{req, nak, Message, messageBytes}
+use Rattle.messages.specs.Layout.{req, nak, Message, messageLength}
 use Rattle.messages.specs.Reading.{accepted, readOutcome}
 use Rattle.messages.specs.Requests.{attentionCommand, requestOf}
 use Rattle.messages.specs.Table.{oneToFive}
 use Rattle.messages.specs.Writing.{writeRefusal}
+use Rattle.messages.specs.declared.edition.Edition.{Edition}
 use Rattle.messages.specs.declared.request.Request.{Request}
 use Rattle.messages.proofs.Laws.{read-shape, write-accepted}
-use Rattle.messages.proofs.Stores.{length-message}
 use Rattle.dock.specs.Data.{withPage, withStanding}
-use Rattle.dock.specs.Dock.{Decision, accepts, sends, stepOf, bufferOf, reply, asking, sending, decideRequest, moved}
+use Rattle.dock.specs.Dock.{Decision, accepts, sends, stepOf, bufferOf, reply, asking, sending, decideRequest, spokenTo, moved}
 use Rattle.dock.specs.declared.Dock.{Dock}
 use Rattle.dock.specs.declared.Standing.the-variants.{Asking, Sending}
 use Rattle.dock.proofs.Decisions.{message-request, failed-ready}
@@ -41,19 +41,19 @@ request-same : (r : Request) (d : Dock) → decideRequest (asFailed d) r ≡ dec
 unfolding decideRequest sending
 request-same r d = ap (λ (x : Dock). cond (oneToFive (r .command)) (accepts x) (sends (reply r nak []) (sending false d))) (asking-same r d)
 
-module _ (d : Dock) (bytes out : List ℕ) (m : Message) (read : readOutcome bytes ≡ accepted m) (is-req : m .head .kind ≡ req)
+module _ (d : Dock) (bytes out : List ℕ) (at : Edition) (m : Message) (read : readOutcome bytes ≡ accepted at m) (is-req : m .head .kind ≡ req)
     (other : m .head .command ≡ attentionCommand → ⊥) (room : (oneToFive (m .head .command) ≡ true) ⊎ (4 ≤ length out)) where
   abbrev asked : Request
   asked = requestOf (m .head)
 
-  decides : (x : Dock) → decision (message bytes) x ≡ decideRequest x asked
-  decides x = message-request x (readOutcome bytes) m (m .head) read refl is-req other
+  decides : (x : Dock) → decision (message bytes) x ≡ decideRequest (spokenTo at x) asked
+  decides x = message-request x (readOutcome bytes) at m (m .head) read refl is-req other
 
   same-decision : decision (message bytes) (asFailed d) ≡ decision (message bytes) d
-  same-decision = decides (asFailed d) ∙ request-same asked d ∙ sym (decides d)
+  same-decision = decides (asFailed d) ∙ request-same asked (spokenTo at d) ∙ sym (decides d)
 
   -- the step of a good request does not depend on the state that a refusal would keep
-  accepted-same : (x : Dock) → stepOf x (decideRequest d asked) (length out) ≡ stepOf d (decideRequest d asked) (length out)
+  accepted-same : (x : Dock) → stepOf x (decideRequest (spokenTo at d) asked) (length out) ≡ stepOf d (decideRequest (spokenTo at d) asked) (length out)
   unfolding stepOf decideRequest
   accepted-same x = go (oneToFive (m .head .command)) refl room
     where
@@ -63,11 +63,11 @@ module _ (d : Dock) (bytes out : List ℕ) (m : Message) (read : readOutcome byt
       written-whole : oneToFive (m .head .command) ≡ false → 4 ≤ length out → writeRefusal answer (length out) ≡ 0
       written-whole e h =
           write-accepted answer (length out) .1
-          (nak-shape m (read-shape bytes m read) (straight (m .head .command) e other), le-ltb (length out) (length (messageBytes answer)) (omega (arith, length-message answer)))
+          (nak-shape m (read-shape bytes at m read) (straight (m .head .command) e other), le-ltb (length out) (messageLength answer) (omega arith))
 
       go : (t : Bool) → oneToFive (m .head .command) ≡ t → (t ≡ true) ⊎ (4 ≤ length out) →
-          stepOf x (cond t (accepts (asking asked d)) (sends answer (sending false d))) (length out) ≡
-          stepOf d (cond t (accepts (asking asked d)) (sends answer (sending false d))) (length out)
+          stepOf x (cond t (accepts (asking asked (spokenTo at d))) (sends answer (sending false (spokenTo at d)))) (length out) ≡
+          stepOf d (cond t (accepts (asking asked (spokenTo at d))) (sends answer (sending false (spokenTo at d)))) (length out)
       go true e h = refl
       go false e (inl h) = absurd (false≢true h)
       go false e (inr h) = rw (eq-eqb (writeRefusal answer (length out)) 0 (written-whole e h))

@@ -20,7 +20,7 @@ pub data Call : Type 0 where
   failed : Call
 
 abbrev pub decision : Call → Dock → Decision
-decision (load identity svids) d = decideLoad (d .standing) identity svids
+decision (load identity svids) d = decideLoad d (d .standing) identity svids
 decision (message bytes) d = decideMessage d (readOutcome bytes)
 decision (policyAnswer policy r objects) d = decidePolicyAnswer d (d .standing) policy r objects
 decision sent d = decideSent d (d .standing)

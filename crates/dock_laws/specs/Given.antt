@@ -10,6 +10,7 @@ use Rattle.messages.specs.Layout.{req, ack, nak, busy, Message}
 use Rattle.messages.specs.Reading.{readLines, accepted, readOutcome}
 use Rattle.messages.specs.Requests.{identityCommand, svidsCommand, modesCommand, attentionCommand}
 use Rattle.messages.specs.Writing.{wellShaped}
+use Rattle.messages.specs.declared.edition.Edition.{Edition}
 use Rattle.messages.specs.declared.request.Request.{Request}
 use Rattle.pages.specs.Lists.{mostSvids}
 use Rattle.pages.specs.Pages.{page}
@@ -70,9 +71,9 @@ pub data GivenToLoad (d : Dock) (identity svids : List ℕ) (number : ℕ) : Typ
 -- commands 0 and 7..31, which has one object
 pub data GivenToMessage (bytes out : List ℕ) (number : ℕ) : Type 0 where
   not-read : (k : ℕ) → number ≡ 1 + k → firstAt (readLines bytes) k ≡ true → GivenToMessage bytes out number
-  not-a-request : number ≡ 6 → (m : Message) → readOutcome bytes ≡ accepted m →
+  not-a-request : number ≡ 6 → (at : Edition) (m : Message) → readOutcome bytes ≡ accepted at m →
       (m .head .kind ≡ req → ⊥) ⊎ (m .head .command ≡ attentionCommand) → GivenToMessage bytes out number
-  no-room-for-nak : number ≡ 11 → (m : Message) → readOutcome bytes ≡ accepted m → m .head .kind ≡ req →
+  no-room-for-nak : number ≡ 11 → (at : Edition) (m : Message) → readOutcome bytes ≡ accepted at m → m .head .kind ≡ req →
       (m .head .command ≡ 0) ⊎ (attentionCommand < m .head .command) → length out < 4 → GivenToMessage bytes out number
 
 -- policy's answer: 9 if none is waiting or it names another request; then 10; then 5 for an answer of wrong shape by the table; then 11

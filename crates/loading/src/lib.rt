@@ -13,6 +13,7 @@ use dock::accepted;
 use dock::refused;
 use list::objects_from;
 use list::svids_from;
+use messages::Edition;
 use pages::MOST_SVIDS;
 
 fn good_data(identity: &[u32], svids: &[u16]) -> bool
@@ -30,9 +31,9 @@ fn good_data(identity: &[u32], svids: &[u16]) -> bool
     pages::sound(svids)
 }
 
-fn dock_of(identity: &[u32], svids: &[u16]) -> Dock
+fn dock_of(edition: Edition, identity: &[u32], svids: &[u16]) -> Dock
     requires { ⌜ (length (now identity) ≤ 6) × (length (now svids) ≤ 72) ⌝ }
-    ensures { λ r. ⌜ r ≡ loaded (now (identity .entry)) (now (svids .entry)) ⌝ }
+    ensures { λ r. ⌜ r ≡ loaded edition (now (identity .entry)) (now (svids .entry)) ⌝ }
 {
     Dock {
         identity: objects_from(identity),
@@ -40,20 +41,22 @@ fn dock_of(identity: &[u32], svids: &[u16]) -> Dock
         svids: svids_from(svids),
         count: svids.len() as u8,
         page: 0,
+        edition,
         standing: Standing::Ready,
     }
 }
 
-// Loads identity and list, and sets the page to 0: refused 9 unless ready, then 10 for data that breaks its limits.
+// Loads identity and list, and sets the page to 0; the edition stays. Refused 9 unless ready, then 10 for data that breaks its limits.
 pub fn load(dock: Dock, identity: &[u32], svids: &[u16]) -> Step
-    ensures { λ r. ⌜ r ≡ stepOf dock (decideLoad (dock .standing) (now (identity .entry)) (now (svids .entry))) 0 ⌝ }
+    ensures { λ r. ⌜ r ≡ stepOf dock (decideLoad dock (dock .standing) (now (identity .entry)) (now (svids .entry))) 0 ⌝ }
 {
     let standing = dock.standing;
     let Standing::Ready = standing else {
         return refused(9, dock);
     };
     if good_data(identity, svids) {
-        return accepted(0, dock_of(identity, svids));
+        let edition = dock.edition;
+        return accepted(0, dock_of(edition, identity, svids));
     }
     refused(10, dock)
 }

@@ -9,6 +9,8 @@ use lib.Dec.{eqb}
 use lib.ListN.{length, getD, take, replicate}
 use lib.Seq.{sets}
 use borrow.Author.Tests.{eq-eqb, ne-eqb, le-leb, lt-leb, lt-ltb, le-ltb}
+use Rattle.messages.specs.Editions.{ours, lower}
+use Rattle.messages.specs.declared.edition.Edition.{Edition}
 use Rattle.gathering.specs.Gathering.{hearIdentity, Gathering, gathering, sixHalves, unlessLast, takeAs, takePage, noneGathered, hearSvids}
 use Rattle.laptop.specs.Calls.{refusedBy, acceptedWith}
 use Rattle.laptop.specs.State.{isOpen, gatheredList, ended, dropped, opened, withPages, counted, gatheredTo}
@@ -32,18 +34,18 @@ module _ (l : Laptop) where
   counted-most h = rw (le-ltb _ _ h)
 
 -- Identity
-module _ (l : Laptop) (kind n : ℕ) (objects svids identity : List ℕ) where
+module _ (l : Laptop) (at : Edition) (kind n : ℕ) (objects svids identity : List ℕ) where
   pub identity-ack : kind ≡ 1 →
-      (acceptedWith Nothing (opened n l) ≡ hearIdentity l kind n objects svids identity .step) ×
-      (replicate 72 0 ≡ hearIdentity l kind n objects svids identity .svids) ×
-      (objects ≡ hearIdentity l kind n objects svids identity .identity)
+      (acceptedWith Nothing (opened n (lower at ours) l) ≡ hearIdentity l at kind n objects svids identity .step) ×
+      (replicate 72 0 ≡ hearIdentity l at kind n objects svids identity .svids) ×
+      (objects ≡ hearIdentity l at kind n objects svids identity .identity)
   unfolding hearIdentity
   identity-ack e = rw (eq-eqb _ _ e) (refl, refl, refl)
 
   pub identity-other : (kind ≡ 1 → ⊥) →
-      (acceptedWith Nothing (dropped l) ≡ hearIdentity l kind n objects svids identity .step) ×
-      (svids ≡ hearIdentity l kind n objects svids identity .svids) ×
-      (identity ≡ hearIdentity l kind n objects svids identity .identity)
+      (acceptedWith Nothing (dropped l) ≡ hearIdentity l at kind n objects svids identity .step) ×
+      (svids ≡ hearIdentity l at kind n objects svids identity .svids) ×
+      (identity ≡ hearIdentity l at kind n objects svids identity .identity)
   unfolding hearIdentity
   identity-other e = rw (ne-eqb _ _ e) (refl, refl, refl)
 

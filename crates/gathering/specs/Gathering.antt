@@ -1,4 +1,4 @@
--- Answers that gather the list: Identity and SVIDs (01, "The laptop end", "Taking a page").
+-- Answers that gather the list: Identity and SVIDs (01, "The laptop end", "Taking a page"; 02, R-5).
 use mathlib.Core.Path.{_≡_}
 use Prim.Native.Nat.{ℕ, _+_, _/_, _%_, _^_}
 use mathlib.Core.Bool.{Bool, cond, _&&_}
@@ -6,7 +6,9 @@ use mathlib.Core.List.{List, [], _∷_}
 use lib.Dec.{leb, eqb}
 use lib.ListN.{length, getD, replicate}
 use lib.Seq.{sets}
+use Rattle.messages.specs.Editions.{ours, lower}
 use Rattle.messages.specs.Layout.{ack, busy}
+use Rattle.messages.specs.declared.edition.Edition.{Edition}
 use Rattle.pages.specs.Lists.{mostSvids}
 use Rattle.pages.specs.Pages.{perPage}
 use Rattle.taking.specs.Taking.{refusalOf, addedBy, meant, verdict}
@@ -19,7 +21,7 @@ use Rattle.laptop.specs.declared.Laptop.{Laptop}
 use Rattle.laptop.specs.declared.Step.{Step}
 use Rattle.laptop.specs.declared.Told.the-variants.{Nothing}
 
--- Identity: an ACK opens an empty list; NAK or BUSY leaves no candidate
+-- Identity: an ACK opens an empty list, and the lower of its edition and ours is used from now on; NAK or BUSY leaves no candidate
 pub record Opening : Type 0 where
   pub step : Step
   pub svids : List ℕ
@@ -29,9 +31,9 @@ pub record Opening : Type 0 where
 abbrev pub OpeningIs : Opening → Step → List ℕ → List ℕ → Type 0
 OpeningIs o step svids identity = (step ≡ o .step) × (svids ≡ o .svids) × (identity ≡ o .identity)
 
-unfoldable pub hearIdentity : Laptop → ℕ → ℕ → List ℕ → List ℕ → List ℕ → Opening
-hearIdentity l kind n objects svids identity =
-    cond (eqb kind ack) (record { step = acceptedWith Nothing (opened n l); svids = replicate mostSvids 0; identity = objects })
+unfoldable pub hearIdentity : Laptop → Edition → ℕ → ℕ → List ℕ → List ℕ → List ℕ → Opening
+hearIdentity l e kind n objects svids identity =
+    cond (eqb kind ack) (record { step = acceptedWith Nothing (opened n (lower e ours) l); svids = replicate mostSvids 0; identity = objects })
     (record { step = acceptedWith Nothing (dropped l); svids = svids; identity = identity })
 
 -- SVIDs: what becomes of the call and of the candidate's SVIDs

@@ -25,38 +25,43 @@ use laptop::ended;
 use laptop::refused;
 use messages::ACK;
 use messages::BUSY;
+use messages::Edition;
+use messages::OURS;
+use messages::lower;
 use pages::first_svids;
 use taking::Verdict;
 
-fn opened(extent: u8, laptop: Laptop) -> Laptop
-    ensures { λ r. ⌜ r ≡ State·opened extent laptop ⌝ }
+fn opened(extent: u8, edition: Edition, laptop: Laptop) -> Laptop
+    ensures { λ r. ⌜ r ≡ State·opened extent edition laptop ⌝ }
 {
     Laptop {
         wait: Wait::Nothing,
         candidate: Candidate::Open,
         gathered: Size { extent, count: 0 },
         stored: 0,
+        edition,
         ..laptop
     }
 }
 
-// An ACK opens an empty list; NAK or BUSY leaves no candidate.
+// An ACK opens an empty list, and the lower of its edition and ours is used from now on; NAK or BUSY leaves no candidate.
 pub fn hear_identity(
     laptop: Laptop,
+    edition: Edition,
     kind: u8,
     count: u8,
     objects: &[u32; 6],
     svids: &mut [u16; 72],
     identity: &mut [u32; 6],
 ) -> Step
-    ensures { λ r. ⌜ OpeningIs (hearIdentity laptop kind count (now (objects .entry)) (now (svids .entry)) (now (identity .entry))) r (now (svids .exit)) (now (identity .exit)) ⌝ }
+    ensures { λ r. ⌜ OpeningIs (hearIdentity laptop edition kind count (now (objects .entry)) (now (svids .entry)) (now (identity .entry))) r (now (svids .exit)) (now (identity .exit)) ⌝ }
 {
     if kind != ACK {
         return accepted(Told::Nothing, dropped(laptop));
     }
     *svids = [0u16; 72];
     *identity = *objects;
-    accepted(Told::Nothing, opened(count, laptop))
+    accepted(Told::Nothing, opened(count, lower(edition, OURS), laptop))
 }
 
 // The page count goes up by 1, and stays at the greatest number there is.

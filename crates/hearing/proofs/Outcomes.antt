@@ -13,6 +13,7 @@ use Rattle.messages.specs.Reading.{Outcome, accepted, refused, readOutcome, sho
 use Rattle.messages.specs.declared.ReadAs.the-variants.{Message as ReadAs·Message}
 use Rattle.messages.specs.declared.Head.{Head}
 use Rattle.messages.specs.declared.Reading.{Reading}
+use Rattle.messages.specs.declared.edition.Edition.{Edition}
 use Rattle.messages.proofs.Laws.{shown-message, read-count}
 use Rattle.hearing.specs.Hearing.{Result, only, hearRequest, fits, hearUnawaited, hearAnswer, hear, heard}
 use Rattle.hearing.proofs.Parts.{messageOf, first-object}
@@ -20,30 +21,30 @@ use Rattle.laptop.specs.Calls.{refusedBy, shortRuns}
 use Rattle.laptop.specs.State.{Memory}
 use Rattle.laptop.specs.declared.Laptop.{Laptop}
 
--- what was read, as the code takes it apart: the head, the number of objects and six words
-module _ (bytes : List ℕ) (r : Reading) (h : Head) (count : ℕ) (shows : r ≡ shown (readOutcome bytes)) (is : r .outcome ≡ ReadAs·Message h count) where
+-- what was read, as the code takes it apart: the edition, the head, the number of objects and six words
+module _ (bytes : List ℕ) (r : Reading) (at : Edition) (h : Head) (count : ℕ) (shows : r ≡ shown (readOutcome bytes)) (is : r .outcome ≡ ReadAs·Message at h count) where
   pub count-few : count ≤ 6
   count-few =
-      let a = shown-message (readOutcome bytes) r h count shows is in omega (arith, read-count bytes (a .0) (a .1), a .3)
+      let a = shown-message (readOutcome bytes) r at h count shows is in omega (arith, read-count bytes at (a .0) (a .1), a .3)
 
-  objects-read : (x : Message) → readOutcome bytes ≡ accepted x → length (x .objects) ≡ count → padded (x .objects) ≡ r .objects →
+  objects-read : (x : Message) → readOutcome bytes ≡ accepted at x → length (x .objects) ≡ count → padded (x .objects) ≡ r .objects →
       x .objects ≡ take count (r .objects)
-  objects-read x is size pads = sym (take-padded (x .objects) (read-count bytes x is)) ∙ ap₂ (λ (n : ℕ) (o : List ℕ). take n o) size pads
+  objects-read x is size pads = sym (take-padded (x .objects) (read-count bytes at x is)) ∙ ap₂ (λ (n : ℕ) (o : List ℕ). take n o) size pads
 
   pub words-padded : padded (take count (r .objects)) ≡ r .objects
   words-padded =
-      let a = shown-message (readOutcome bytes) r h count shows is in
+      let a = shown-message (readOutcome bytes) r at h count shows is in
       ap padded (sym (objects-read (a .0) (a .1) (a .3) (a .4))) ∙ a .4
 
   size-read : length (take count (r .objects)) ≡ count
   size-read =
-      let a = shown-message (readOutcome bytes) r h count shows is in
+      let a = shown-message (readOutcome bytes) r at h count shows is in
       ap length (sym (objects-read (a .0) (a .1) (a .3) (a .4))) ∙ a .3
 
-  is-read : readOutcome bytes ≡ accepted (messageOf h count (r .objects))
+  is-read : readOutcome bytes ≡ accepted at (messageOf h count (r .objects))
   is-read =
-      let a = shown-message (readOutcome bytes) r h count shows is in
-      a .1 ∙ ap₂ (λ (x : Head) (o : List ℕ). accepted (record { head = x; objects = o })) (a .2) (objects-read (a .0) (a .1) (a .3) (a .4))
+      let a = shown-message (readOutcome bytes) r at h count shows is in
+      a .1 ∙ ap₂ (λ (x : Head) (o : List ℕ). accepted at (record { head = x; objects = o })) (a .2) (objects-read (a .0) (a .1) (a .3) (a .4))
 
 module _ (l : Laptop) (m : Memory) where
   pub heard-short : (o : Outcome) → shortRuns (length (m .run)) (length (m .heldRun)) ≡ true → heard l m o ≡ only m (refusedBy 11 l)
@@ -60,12 +61,12 @@ module _ (l : Laptop) (m : Memory) where
     heard-refused o number e = heard-long o (refused number) e
 
     -- a message, as the code takes it apart
-    module _ (bytes : List ℕ) (r : Reading) (h : Head) (count : ℕ) (shows : r ≡ shown (readOutcome bytes)) (is : r .outcome ≡ ReadAs·Message h count) where
-      heard-read : heard l m (readOutcome bytes) ≡ hear l m (accepted (messageOf h count (r .objects)))
-      heard-read = heard-long (readOutcome bytes) (accepted (messageOf h count (r .objects))) (is-read bytes r h count shows is)
+    module _ (bytes : List ℕ) (r : Reading) (at : Edition) (h : Head) (count : ℕ) (shows : r ≡ shown (readOutcome bytes)) (is : r .outcome ≡ ReadAs·Message at h count) where
+      heard-read : heard l m (readOutcome bytes) ≡ hear l m (accepted at (messageOf h count (r .objects)))
+      heard-read = heard-long (readOutcome bytes) (accepted at (messageOf h count (r .objects))) (is-read bytes r at h count shows is)
 
       requested : h .kind ≡ 0 →
-          hear l m (accepted (messageOf h count (r .objects))) ≡
+          hear l m (accepted at (messageOf h count (r .objects))) ≡
           only m (hearRequest l h (length (take count (r .objects))) (getD (take count (r .objects)) 0 0))
       unfolding hear
       requested e = rw e
@@ -73,15 +74,15 @@ module _ (l : Laptop) (m : Memory) where
       pub heard-request : h .kind ≡ 0 → heard l m (readOutcome bytes) ≡ only m (hearRequest l h count (getD (r .objects) 0 0))
       heard-request e =
           let first : getD (take count (r .objects)) 0 0 ≡ getD (r .objects) 0 0 =
-          first-object (take count (r .objects)) ∙ ap (λ (o : List ℕ). getD o 0 0) (words-padded bytes r h count shows is) in
-          heard-read ∙ requested e ∙ ap₂ (λ (n k : ℕ). only m (hearRequest l h n k)) (size-read bytes r h count shows is) first
+          first-object (take count (r .objects)) ∙ ap (λ (o : List ℕ). getD o 0 0) (words-padded bytes r at h count shows is) in
+          heard-read ∙ requested e ∙ ap₂ (λ (n k : ℕ). only m (hearRequest l h n k)) (size-read bytes r at h count shows is) first
 
       module _ (answer : h .kind ≡ 0 → ⊥) where
         pub heard-unawaited : fits (l .wait) h ≡ false → heard l m (readOutcome bytes) ≡ only m (hearUnawaited l h)
         unfolding hear
         heard-unawaited e = heard-read ∙ rw (ne-eqb _ _ answer, e)
 
-        pub heard-answer : fits (l .wait) h ≡ true → heard l m (readOutcome bytes) ≡ hearAnswer l m (messageOf h count (r .objects))
+        pub heard-answer : fits (l .wait) h ≡ true → heard l m (readOutcome bytes) ≡ hearAnswer l m at (messageOf h count (r .objects))
         unfolding hear
         heard-answer e = heard-read ∙ rw (ne-eqb _ _ answer, e)
 

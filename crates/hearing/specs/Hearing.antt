@@ -10,6 +10,7 @@ use Rattle.messages.specs.Layout.{req, ack, busy, Message}
 use Rattle.messages.specs.Reading.{Outcome, accepted, refused, readOutcome}
 use Rattle.messages.specs.Requests.{identityCommand, svidsCommand, modesCommand, attentionCommand, requestOf, sameRequest}
 use Rattle.messages.specs.declared.Head.{Head}
+use Rattle.messages.specs.declared.edition.Edition.{Edition}
 use Rattle.pages.specs.Pages.{halves}
 use Rattle.gathering.specs.Gathering.{hearIdentity, hearSvids, Opening, Gathering}
 use Rattle.hearing.specs.Answers.{hearModes, hearMode, Storing, Marking}
@@ -110,11 +111,11 @@ publishedIfWhole r =
 unfoldable pub publishing : ℕ → Result → Result
 publishing kind r = cond (eqb kind busy) r (publishedIfWhole r)
 
--- an answer that fits what is awaited
-unfoldable pub hearAnswer : Laptop → Memory → Message → Result
-hearAnswer l m message =
+-- an answer that fits what is awaited; its edition counts for Identity alone
+unfoldable pub hearAnswer : Laptop → Memory → Edition → Message → Result
+hearAnswer l m e message =
     cond (eqb (message .head .command) identityCommand)
-    (withOpening m (hearIdentity l (message .head .kind) (length (message .objects)) (padded (message .objects)) (m .svids) (m .identity)))
+    (withOpening m (hearIdentity l e (message .head .kind) (length (message .objects)) (padded (message .objects)) (m .svids) (m .identity)))
     (cond (eqb (message .head .command) svidsCommand)
     (publishing (message .head .kind) (withGathering m (hearSvids l (message .head .kind) (halves (message .objects)) (m .svids))))
     (cond (eqb (message .head .command) modesCommand)
@@ -123,10 +124,10 @@ hearAnswer l m message =
 
 unfoldable pub hear : Laptop → Memory → Outcome → Result
 hear l m (refused number) = only m (refusedBy number l)
-hear l m (accepted message) =
+hear l m (accepted e message) =
     cond (eqb (message .head .kind) req)
     (only m (hearRequest l (message .head) (length (message .objects)) (getD (message .objects) 0 0)))
-    (cond (fits (l .wait) (message .head)) (hearAnswer l m message) (only m (hearUnawaited l (message .head))))
+    (cond (fits (l .wait) (message .head)) (hearAnswer l m e message) (only m (hearUnawaited l (message .head))))
 
 -- a short run is refused before everything else
 unfoldable pub heard : Laptop → Memory → Outcome → Result

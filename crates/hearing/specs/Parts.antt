@@ -9,6 +9,7 @@ use Rattle.laws.specs.Lent.{Lent, lent, left}
 use Rattle.messages.specs.Layout.{busy}
 use Rattle.messages.specs.Requests.{identityCommand, svidsCommand, modesCommand}
 use Rattle.messages.specs.declared.Head.{Head}
+use Rattle.messages.specs.declared.edition.Edition.{Edition}
 use Rattle.gathering.specs.Gathering.{hearIdentity, sixHalves, hearSvids}
 use Rattle.hearing.specs.Answers.{hearModes, isWhole}
 use Rattle.hearing.specs.Hearing.{Result, only, withOpening, withGathering, withStoring, hearAnswer}
@@ -20,10 +21,10 @@ use Rattle.laptop.specs.declared.Step.{Step}
 abbrev pub bringsPart : ℕ → Bool
 bringsPart command = leb identityCommand command && leb command modesCommand
 
--- such an answer, before anything is published, by its command, its type, the number of its objects, and six words
-abbrev pub hearPart : Laptop → Memory → ℕ → ℕ → ℕ → List ℕ → Result
-hearPart l m command kind count words =
-    cond (eqb command identityCommand) (withOpening m (hearIdentity l kind count words (m .svids) (m .identity)))
+-- such an answer, before anything is published, by its edition, its command, its type, the number of its objects, and six words
+abbrev pub hearPart : Laptop → Memory → Edition → ℕ → ℕ → ℕ → List ℕ → Result
+hearPart l m e command kind count words =
+    cond (eqb command identityCommand) (withOpening m (hearIdentity l e kind count words (m .svids) (m .identity)))
     (cond (eqb command svidsCommand) (withGathering m (hearSvids l kind (take (count * 2) (sixHalves words)) (m .svids)))
     (withStoring m (hearModes l kind (take count words) (m .modes) (m .run))))
 
@@ -32,12 +33,12 @@ abbrev pub completes : ℕ → Laptop → Bool
 completes kind l = cond (eqb kind busy) false (isWhole l)
 
 -- what gathering a part promises, whatever is held
-abbrev pub GathersPart : Laptop → ℕ → ℕ → ℕ → List ℕ → Lent (List ℕ) → Lent (List ℕ) → Lent (List ℕ) → Lent (List ℕ) → Step → Type 0
-GathersPart l command kind count words svids modes identity run step =
+abbrev pub GathersPart : Laptop → Edition → ℕ → ℕ → ℕ → List ℕ → Lent (List ℕ) → Lent (List ℕ) → Lent (List ℕ) → Lent (List ℕ) → Step → Type 0
+GathersPart l e command kind count words svids modes identity run step =
     (heldSvids heldModes heldIdentity heldRun entered : List ℕ) →
     only (memory (left svids) (left modes) (left identity) (left run) heldSvids heldModes heldIdentity heldRun entered) step ≡
-    hearPart l (memory (lent svids) (lent modes) (lent identity) (lent run) heldSvids heldModes heldIdentity heldRun entered) command kind count words
+    hearPart l (memory (lent svids) (lent modes) (lent identity) (lent run) heldSvids heldModes heldIdentity heldRun entered) e command kind count words
 
 -- what hearing an awaited answer promises: the step and all that is lent, in one
-abbrev pub HearsAnswer : Laptop → Head → List ℕ → LentMemory → Step → Type 0
-HearsAnswer l head objects m step = only (m .exit) step ≡ hearAnswer l (m .entry) (record { head = head; objects = objects })
+abbrev pub HearsAnswer : Laptop → Edition → Head → List ℕ → LentMemory → Step → Type 0
+HearsAnswer l e head objects m step = only (m .exit) step ≡ hearAnswer l (m .entry) e (record { head = head; objects = objects })

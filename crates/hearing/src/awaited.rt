@@ -13,6 +13,7 @@ use gathering::hear_svids;
 use laptop::Laptop;
 use laptop::Step;
 use messages::BUSY;
+use messages::Edition;
 use messages::Head;
 use messages::IDENTITY;
 use messages::MODES;
@@ -34,6 +35,7 @@ fn brings_part(command: u8) -> bool
 // The part is gathered, whatever is held.
 fn gather(
     laptop: Laptop,
+    edition: Edition,
     command: u8,
     kind: u8,
     count: u8,
@@ -43,10 +45,10 @@ fn gather(
     identity: &mut [u32; 6],
     run: &mut [u32],
 ) -> Step
-    ensures { λ r. ⌜ GathersPart laptop command kind count (now (objects .entry)) svids modes identity run r ⌝ }
+    ensures { λ r. ⌜ GathersPart laptop edition command kind count (now (objects .entry)) svids modes identity run r ⌝ }
 {
     if command == IDENTITY {
-        return hear_identity(laptop, kind, count, objects, svids, identity);
+        return hear_identity(laptop, edition, kind, count, objects, svids, identity);
     }
     if command == SVIDS {
         return hear_svids(laptop, kind, count, objects, svids);
@@ -67,6 +69,7 @@ fn completes(kind: u8, laptop: Laptop) -> bool
 // A candidate that its last part makes whole is published.
 pub(crate) fn hear_answer(
     laptop: Laptop,
+    edition: Edition,
     head: Head,
     count: u8,
     objects: &[u32; 6],
@@ -81,13 +84,14 @@ pub(crate) fn hear_answer(
     entered: &mut [u8; 72],
 ) -> Step
     requires { ⌜ (count ≤ 6) × (padded (take count (now objects)) ≡ now objects) ⌝ }
-    ensures { λ r. ⌜ HearsAnswer laptop head (take count (now (objects .entry))) (memoryLent svids modes identity run «held_svids» «held_modes» «held_identity» «held_run» entered) r ⌝ }
+    ensures { λ r. ⌜ HearsAnswer laptop edition head (take count (now (objects .entry))) (memoryLent svids modes identity run «held_svids» «held_modes» «held_identity» «held_run» entered) r ⌝ }
 {
     if !brings_part(head.command) {
         return hear_mode(laptop, head.kind, request_of(head), held_svids, entered);
     }
     let step = gather(
         laptop,
+        edition,
         head.command,
         head.kind,
         count,

@@ -102,7 +102,7 @@ pub fn message(
     }
     let reading = reading::read(bytes);
     let outcome = reading.outcome;
-    let ReadAs::Message(head, count) = outcome else {
+    let ReadAs::Message(edition, head, count) = outcome else {
         return refused(reading::number(outcome), laptop);
     };
     if head.kind == REQ {
@@ -114,6 +114,7 @@ pub fn message(
     }
     hear_answer(
         laptop,
+        edition,
         head,
         count,
         &reading.objects,

@@ -9,7 +9,7 @@ use borrow.Author.Tests.{eq-eqb, ne-eqb, lt-ltb, le-ltb}
 use Rattle.messages.specs.Layout.{Message}
 use Rattle.messages.specs.Writing.{writeRefusal, Written}
 use Rattle.messages.specs.declared.Head.{Head}
-use Rattle.messages.proofs.Stores.{length-message}
+use Rattle.messages.specs.declared.edition.Edition.{Edition}
 use Rattle.laptop.specs.Calls.{Decision, refuses, accepts, sends, refusedBy, acceptedWith, sentBy, stepOf, bufferOf, Stepped, unless, shortRuns}
 use Rattle.laptop.specs.declared.Laptop.{Laptop}
 use Rattle.laptop.specs.declared.Step.{Step}
@@ -47,7 +47,7 @@ pub same-step : (l : Laptop) (decision other : Decision) (s : Step) → decision
 same-step l decision other s e is = is ∙ sym (ap (λ (x : Decision). stepOf l x 0) e)
 
 -- a message handed over, or refused by the buffer
-module _ (l next : Laptop) (m : Message) (out after : List ℕ) (number : ℕ) (w : Written m out number after) where
+module _ (l next : Laptop) (m : Message) (out after : List ℕ) (number : ℕ) (w : Written (next .edition) m out number after) where
   pub send-refused : (s : Step) → (number ≡ 0 → ⊥) → s ≡ refusedBy number l → Stepped l (sends m next) out s after
   unfolding stepOf bufferOf
   send-refused s h is =
@@ -58,12 +58,12 @@ module _ (l next : Laptop) (m : Message) (out after : List ℕ) (number : ℕ) (
   unfolding stepOf bufferOf
   send-whole s z is =
       let e : writeRefusal m (length out) ≡ 0 = sym (w .number-is) ∙ z in
-      record { step-is = is ∙ rw (e, length-message m); buffer-is = w .buffer-is }
+      record { step-is = is ∙ rw e; buffer-is = w .buffer-is }
 
-pub written-head : (h h′ : Head) (objects out : List ℕ) (number : ℕ) (after : List ℕ) → h ≡ h′ →
-    Written (record { head = h; objects = objects }) out number after → Written (record { head = h′; objects = objects }) out number after
-written-head h h′ objects out number after e w =
-    subst (λ (x : Head). Written (record { head = x; objects = objects }) out number after) e w
+pub written-head : (at : Edition) (h h′ : Head) (objects out : List ℕ) (number : ℕ) (after : List ℕ) → h ≡ h′ →
+    Written at (record { head = h; objects = objects }) out number after → Written at (record { head = h′; objects = objects }) out number after
+written-head at h h′ objects out number after e w =
+    subst (λ (x : Head). Written at (record { head = x; objects = objects }) out number after) e w
 
 -- a refusal that comes before a decision
 module _ (n number : ℕ) (l : Laptop) (decision : Decision) (e : n ≡ number) where

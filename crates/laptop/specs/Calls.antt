@@ -5,7 +5,7 @@ use mathlib.Core.Bool.{Bool, true, false, cond, _||_}
 use mathlib.Core.List.{List}
 use lib.Dec.{ltb, eqb}
 use lib.ListN.{length}
-use Rattle.messages.specs.Layout.{Message, messageBytes}
+use Rattle.messages.specs.Layout.{Message, messageLength}
 use Rattle.messages.specs.Writing.{writeRefusal, written}
 use Rattle.laptop.specs.Catalogue.{runWords}
 use Rattle.laptop.specs.declared.Laptop.{Laptop}
@@ -17,7 +17,7 @@ use Rattle.laptop.specs.declared.Wait.the-variants.{Nothing as Wait·Not
 use Rattle.laptop.specs.declared.Wait.the-variants.{Answer}
 
 -- before the output buffer is looked at: a refusal and the state that it leaves; a new state, with what policy is told; a message, and the
--- state once it is sent
+-- state once it is sent, whose edition is the message's
 pub data Decision : Type 0 where
   refuses : ℕ → Laptop → Decision
   accepts : Told → Laptop → Decision
@@ -37,12 +37,12 @@ unfoldable pub stepOf : Laptop → Decision → ℕ → Step
 stepOf l (refuses number next) room = refusedBy number next
 stepOf l (accepts told next) room = acceptedWith told next
 stepOf l (sends m next) room =
-    cond (eqb (writeRefusal m room) 0) (sentBy (length (messageBytes m)) next) (refusedBy (writeRefusal m room) l)
+    cond (eqb (writeRefusal m room) 0) (sentBy (messageLength m) next) (refusedBy (writeRefusal m room) l)
 
 unfoldable pub bufferOf : Decision → List ℕ → List ℕ
 bufferOf (refuses number next) out = out
 bufferOf (accepts told next) out = out
-bufferOf (sends m next) out = written m out
+bufferOf (sends m next) out = written (next .edition) m out
 
 -- what a call promises: the refusal, the bytes to send, what policy is told and the state in one, and the whole buffer
 pub record Stepped (l : Laptop) (decision : Decision) (out : List ℕ) (step : Step) (after : List ℕ) : Type 0 where

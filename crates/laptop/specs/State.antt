@@ -1,4 +1,4 @@
--- The laptop's state, and how the parts of a rule change it (01, "The laptop end").
+-- The laptop's state, and how the parts of a rule change it (01, "The laptop end"; 02, R-5).
 use Prim.Native.Nat.{ℕ, _+_}
 use mathlib.Core.Bool.{Bool, true, false, cond}
 use mathlib.Core.List.{List}
@@ -6,8 +6,10 @@ use lib.Dec.{ltb}
 use lib.ListN.{take}
 use denote.Triple.Both.{Both}
 use Rattle.laws.specs.Lent.{Lent, lent, left}
+use Rattle.messages.specs.Editions.{ours}
 use Rattle.messages.specs.Table.{pdSid}
 use Rattle.messages.specs.Requests.{identityCommand}
+use Rattle.messages.specs.declared.edition.Edition.{Edition}
 use Rattle.messages.specs.declared.request.Request.{Request}
 use Rattle.laptop.specs.declared.Candidate.{Candidate}
 use Rattle.laptop.specs.declared.Candidate.the-variants.{Absent, Open, Done}
@@ -55,7 +57,7 @@ memoryLent svids modes identity run heldSvids heldModes heldIdentity heldRun ent
       exit = memory (left svids) (left modes) (left identity) (left run) (left heldSvids) (left heldModes) (left heldIdentity) (left heldRun) (left entered);
     }
 
--- nothing is awaited, gathered or held
+-- nothing is awaited, gathered or held; its first message is Identity, so its edition is never seen
 abbrev pub freshLaptop : Laptop
 freshLaptop =
     record {
@@ -65,6 +67,7 @@ freshLaptop =
       stored = 0;
       pages = 0;
       held = Held·Nothing;
+      edition = ours;
     }
 
 -- the candidate's list is open
@@ -87,6 +90,7 @@ ended l =
       stored = l .stored;
       pages = l .pages;
       held = l .held;
+      edition = l .edition;
     }
 
 -- no candidate, and nothing awaited
@@ -99,6 +103,7 @@ dropped l =
       stored = l .stored;
       pages = l .pages;
       held = l .held;
+      edition = l .edition;
     }
 
 abbrev pub awaiting : Request → Laptop → Laptop
@@ -110,9 +115,10 @@ awaiting r l =
       stored = l .stored;
       pages = l .pages;
       held = l .held;
+      edition = l .edition;
     }
 
--- sending Identity sets the page count to 0, and there is no candidate
+-- sending Identity sets the page count to 0, and there is no candidate; it goes out at our edition, which stays until it is acknowledged
 abbrev pub identityRequest : Request
 identityRequest = record { svid = pdSid; command = identityCommand; position = 0 }
 
@@ -125,11 +131,12 @@ identityAsked l =
       stored = l .stored;
       pages = 0;
       held = l .held;
+      edition = ours;
     }
 
--- an empty list is opened
-abbrev pub opened : ℕ → Laptop → Laptop
-opened n l =
+-- an empty list is opened, and an edition chosen
+abbrev pub opened : ℕ → Edition → Laptop → Laptop
+opened n e l =
     record {
       wait = Nothing;
       candidate = Open;
@@ -137,6 +144,7 @@ opened n l =
       stored = 0;
       pages = l .pages;
       held = l .held;
+      edition = e;
     }
 
 -- the page count goes up by 1, and stays at the greatest number there is
@@ -149,6 +157,7 @@ withPages p l =
       stored = l .stored;
       pages = p;
       held = l .held;
+      edition = l .edition;
     }
 
 unfoldable pub counted : Laptop → Laptop
@@ -164,6 +173,7 @@ gatheredTo candidate n l =
       stored = l .stored;
       pages = l .pages;
       held = l .held;
+      edition = l .edition;
     }
 
 -- the first n SVIDs have their modes
@@ -176,6 +186,7 @@ storedTo n l =
       stored = n;
       pages = l .pages;
       held = l .held;
+      edition = l .edition;
     }
 
 -- the candidate is held, and leaves no candidate
@@ -188,4 +199,5 @@ published l =
       stored = l .stored;
       pages = l .pages;
       held = Held·Catalogue (l .gathered);
+      edition = l .edition;
     }

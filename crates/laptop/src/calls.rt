@@ -13,6 +13,7 @@ use crate::Size;
 use crate::Step;
 use crate::Told;
 use crate::Wait;
+use messages::OURS;
 
 // A laptop that awaits, gathers and holds nothing, and has entered no mode.
 pub fn fresh(entered: &mut [u8; 72]) -> Laptop
@@ -29,6 +30,7 @@ pub fn fresh(entered: &mut [u8; 72]) -> Laptop
         stored: 0,
         pages: 0,
         held: Held::Nothing,
+        edition: OURS,
     }
 }
 

@@ -19,6 +19,7 @@ pub use marks::named;
 pub use marks::report;
 pub use marks::six_bits;
 pub use marks::unmarked;
+use messages::Edition;
 use messages::Request;
 pub use places::held_list;
 pub use places::modes_number;
@@ -50,7 +51,7 @@ pub enum Held {
 }
 
 // Besides what is awaited and where the candidate stands: the candidate's size, how many of its SVIDs have their modes stored, the pages counted
-// since the last Identity was sent, and the held catalogue's size.
+// since the last Identity was sent, the held catalogue's size, and the edition of what is sent.
 pub struct Laptop {
     pub wait: Wait,
     pub candidate: Candidate,
@@ -58,6 +59,7 @@ pub struct Laptop {
     pub stored: u8,
     pub pages: u8,
     pub held: Held,
+    pub edition: Edition,
 }
 
 // An Attention: its SVID and position, and how many objects follow its header (0 or 1), with that object or 0.

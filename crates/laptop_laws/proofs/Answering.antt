@@ -12,11 +12,13 @@ use lib.Seq.{sets, length-sets, getD-set-same, getD-set-other}
 use borrow.Author.Tests.{eqb-true, eqb-false, leb-true, leb-false, ltb-true, ltb-false}
 use Rattle.laws.specs.Padded.{padded}
 use Rattle.laws.proofs.Lines.{and-left, and-right}
+use Rattle.messages.specs.Editions.{ours, lower}
 use Rattle.messages.specs.Layout.{Message}
 use Rattle.messages.specs.Reading.{Outcome, accepted, refused, readOutcome}
 use Rattle.messages.specs.Requests.{requestOf, sameRequest}
 use Rattle.messages.specs.Writing.{wellShaped}
 use Rattle.messages.specs.declared.Head.{Head}
+use Rattle.messages.specs.declared.edition.Edition.{Edition}
 use Rattle.messages.specs.declared.request.Request.{Request}
 use Rattle.messages.proofs.Laws.{identity-least, modes-least, read-shape, read-count}
 use Rattle.pages.specs.Lists.{soundList}
@@ -423,10 +425,10 @@ module _ (l : Laptop) (m : Memory) (w : WellFormed l m) (none : anyEntered (m .e
 
 -- Identity
 module _ (l : Laptop) (m : Memory) (w : WellFormed l m) where
-  opened-formed : (n : ℕ) (objects : List ℕ) → 3 ≤ n → n ≤ 6 → l .pages ≡ 0 → anyEntered (m .entered) ≡ false →
-      WellFormed (opened n l)
+  opened-formed : (at : Edition) (n : ℕ) (objects : List ℕ) → 3 ≤ n → n ≤ 6 → l .pages ≡ 0 → anyEntered (m .entered) ≡ false →
+      WellFormed (opened n at l)
       (memory (replicate 72 0) (m .modes) objects (m .run) (m .heldSvids) (m .heldModes) (m .heldIdentity) (m .heldRun) (m .entered))
-  opened-formed n objects least most start none =
+  opened-formed at n objects least most start none =
       record {
         lent =
             record {
@@ -455,16 +457,16 @@ module _ (l : Laptop) (m : Memory) (w : WellFormed l m) where
         mode-fits = tt;
       }
 
-  identity-formed : (kind n : ℕ) (objects : List ℕ) → (kind ≡ 1 → 3 ≤ n) → n ≤ 6 → l .pages ≡ 0 → anyEntered (m .entered) ≡ false →
-      WellFormed (withOpening m (hearIdentity l kind n objects (m .svids) (m .identity)) .step .laptop)
-      (withOpening m (hearIdentity l kind n objects (m .svids) (m .identity)) .after)
+  identity-formed : (at : Edition) (kind n : ℕ) (objects : List ℕ) → (kind ≡ 1 → 3 ≤ n) → n ≤ 6 → l .pages ≡ 0 → anyEntered (m .entered) ≡ false →
+      WellFormed (withOpening m (hearIdentity l at kind n objects (m .svids) (m .identity)) .step .laptop)
+      (withOpening m (hearIdentity l at kind n objects (m .svids) (m .identity)) .after)
   unfolding hearIdentity
-  identity-formed kind n objects least most start none = go (eqb kind 1) refl
+  identity-formed at kind n objects least most start none = go (eqb kind 1) refl
     where
       go : (t : Bool) → eqb kind 1 ≡ t →
-          WellFormed (withOpening m (cond t (record { step = acceptedWith Told·Nothing (opened n l); svids = replicate 72 0; identity = objects }) (record { step = acceptedWith Told·Nothing (dropped l); svids = m .svids; identity = m .identity })) .step .laptop)
-          (withOpening m (cond t (record { step = acceptedWith Told·Nothing (opened n l); svids = replicate 72 0; identity = objects }) (record { step = acceptedWith Told·Nothing (dropped l); svids = m .svids; identity = m .identity })) .after)
-      go true e = opened-formed n objects (least (eqb-true kind 1 e)) most start none
+          WellFormed (withOpening m (cond t (record { step = acceptedWith Told·Nothing (opened n (lower at ours) l); svids = replicate 72 0; identity = objects }) (record { step = acceptedWith Told·Nothing (dropped l); svids = m .svids; identity = m .identity })) .step .laptop)
+          (withOpening m (cond t (record { step = acceptedWith Told·Nothing (opened n (lower at ours) l); svids = replicate 72 0; identity = objects }) (record { step = acceptedWith Told·Nothing (dropped l); svids = m .svids; identity = m .identity })) .after)
+      go true e = opened-formed (lower at ours) n objects (least (eqb-true kind 1 e)) most start none
       go false e = dropped-formed l m w
 
   -- marks
@@ -583,14 +585,14 @@ module _ (l : Laptop) (m : Memory) (w : WellFormed l m) where
       go true = refl
       go false = e
 
-  answer-formed : (x : Message) → wellShaped x ≡ true → length (x .objects) ≤ 6 → fits (l .wait) (x .head) ≡ true → Formed (hearAnswer l m x)
+  answer-formed : (at : Edition) (x : Message) → wellShaped x ≡ true → length (x .objects) ≤ 6 → fits (l .wait) (x .head) ≡ true → Formed (hearAnswer l m at x)
   unfolding hearAnswer
-  answer-formed x good few fit =
+  answer-formed at x good few fit =
       formed-either (eqb (x .head .command) 1) _ _
       (λ e.
       let k = eqb-true (x .head .command) 1 e in
       let id = fits-identity (l .pages) (l .stored) (m .svids) (l .wait) (l .candidate) (x .head) (w .wait-fits) fit k in
-      identity-formed (x .head .kind) (length (x .objects)) (padded (x .objects)) (λ a. identity-least x good k a) few (id .0) (asked-none (id .1)))
+      identity-formed at (x .head .kind) (length (x .objects)) (padded (x .objects)) (λ a. identity-least x good k a) few (id .0) (asked-none (id .1)))
       (λ n1.
       formed-either (eqb (x .head .command) 2) _ _
       (λ e.
@@ -619,18 +621,18 @@ module _ (l : Laptop) (m : Memory) (w : WellFormed l m) where
   unfolding hearUnawaited
   unawaited-formed h = step-either (isLatePage l h) _ _ (dropped-formed l m w) w
 
-  message-formed : (x : Message) → wellShaped x ≡ true → length (x .objects) ≤ 6 → Formed (hear l m (accepted x))
+  message-formed : (at : Edition) (x : Message) → wellShaped x ≡ true → length (x .objects) ≤ 6 → Formed (hear l m (accepted at x))
   unfolding hear
-  message-formed x good few =
+  message-formed at x good few =
       formed-either (eqb (x .head .kind) 0) _ _ (λ e. request-formed (x .head) _ _)
-      (λ e. formed-either (fits (l .wait) (x .head)) _ _ (λ f. answer-formed x good few f) (λ f. unawaited-formed (x .head)))
+      (λ e. formed-either (fits (l .wait) (x .head)) _ _ (λ f. answer-formed at x good few f) (λ f. unawaited-formed (x .head)))
 
   refused-formed : (number : ℕ) → Formed (hear l m (refused number))
   unfolding hear
   refused-formed number = w
 
   outcome-formed : (bytes : List ℕ) (o : Outcome) → readOutcome bytes ≡ o → Formed (hear l m o)
-  outcome-formed bytes (accepted x) e = message-formed x (read-shape bytes x e) (read-count bytes x e)
+  outcome-formed bytes (accepted at x) e = message-formed at x (read-shape bytes at x e) (read-count bytes at x e)
   outcome-formed bytes (refused number) e = refused-formed number
 
   pub message-keeps : (bytes : List ℕ) → Formed (heard l m (readOutcome bytes))

@@ -8,7 +8,7 @@ use native.Mathlib.Omega.{arith}
 use lib.Dec.{leb, ltb, eqb}
 use lib.ListN.{length, getD, replicate}
 use borrow.Author.Tests.{eqb-true, eqb-false}
-use Rattle.messages.specs.Layout.{messageBytes}
+use Rattle.messages.specs.Layout.{messageLength}
 use Rattle.messages.specs.Writing.{writeRefusal}
 use Rattle.messages.specs.declared.request.Request.{Request}
 use Rattle.laptop.specs.Calls.{Decision, refuses, accepts, sends, refusedBy, sentBy, stepOf, unless}
@@ -113,7 +113,7 @@ module _ (l : Laptop) (m : Memory) (w : WellFormed l m) where
   step-formed (accepts told after) f room = f
   step-formed (sends x after) f room = go (eqb (writeRefusal x room) 0)
     where
-      go : (t : Bool) → WellFormed ((cond t (sentBy (length (messageBytes x)) after) (refusedBy (writeRefusal x room) l)) .laptop) m
+      go : (t : Bool) → WellFormed ((cond t (sentBy (messageLength x) after) (refusedBy (writeRefusal x room) l)) .laptop) m
       go true = f
       go false = w
 

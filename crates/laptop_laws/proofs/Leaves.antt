@@ -5,9 +5,10 @@ use mathlib.Core.List.{List}
 use Prim.Native.Nat.{ℕ}
 use lib.Dec.{leb, ltb, eqb}
 use lib.ListN.{length}
-use Rattle.messages.specs.Layout.{Message, messageBytes}
+use Rattle.messages.specs.Layout.{Message, messageLength}
 use Rattle.messages.specs.Reading.{Outcome, accepted, refused, readOutcome}
 use Rattle.messages.specs.Requests.{requestOf}
+use Rattle.messages.specs.declared.edition.Edition.{Edition}
 use Rattle.messages.specs.declared.request.Request.{Request}
 use Rattle.messages.specs.Writing.{writeRefusal, written}
 use Rattle.pages.specs.Pages.{halves}
@@ -24,9 +25,9 @@ use Rattle.laptop.specs.declared.Laptop.{Laptop}
 use Rattle.laptop.specs.declared.Step.{Step}
 
 -- the output buffer
-left-alone : (m : Message) (out : List ℕ) → eqb (writeRefusal m (length out)) 0 ≡ false → written m out ≡ out
+left-alone : (at : Edition) (m : Message) (out : List ℕ) → eqb (writeRefusal m (length out)) 0 ≡ false → written at m out ≡ out
 unfolding written
-left-alone m out e = rw e
+left-alone at m out e = rw e
 
 pub buffer-left : (l : Laptop) (d : Decision) (out : List ℕ) → (stepOf l d (length out) .refusal ≡ 0 → ⊥) → bufferOf d out ≡ out
 unfolding stepOf bufferOf
@@ -35,9 +36,9 @@ buffer-left l (accepts told after) out h = refl
 buffer-left l (sends m after) out h = go (eqb (writeRefusal m (length out)) 0) refl h
   where
     go : (t : Bool) → eqb (writeRefusal m (length out)) 0 ≡ t →
-        ((cond t (sentBy (length (messageBytes m)) after) (refusedBy (writeRefusal m (length out)) l)) .refusal ≡ 0 → ⊥) → written m out ≡ out
+        ((cond t (sentBy (messageLength m) after) (refusedBy (writeRefusal m (length out)) l)) .refusal ≡ 0 → ⊥) → written (after .edition) m out ≡ out
     go true e n = absurd (n refl)
-    go false e n = left-alone m out e
+    go false e n = left-alone (after .edition) m out e
 
 -- a result that is refused only where it leaves what is lent
 abbrev Leaves : Memory → Result → Type 0
@@ -137,19 +138,19 @@ marking-leaves : (m : Memory) (t : Bool) (a b : Marking) → a .step .refusal �
 marking-leaves m true a b ea eb n = absurd (n ea)
 marking-leaves m false a b ea eb n = absurd (n eb)
 
-identity-leaves : (l : Laptop) (m : Memory) (kind n : ℕ) (objects : List ℕ) →
-    Leaves m (withOpening m (hearIdentity l kind n objects (m .svids) (m .identity)))
+identity-leaves : (l : Laptop) (m : Memory) (at : Edition) (kind n : ℕ) (objects : List ℕ) →
+    Leaves m (withOpening m (hearIdentity l at kind n objects (m .svids) (m .identity)))
 unfolding hearIdentity
-identity-leaves l m kind n objects = opening-leaves m (eqb kind 1) _ _ refl refl
+identity-leaves l m at kind n objects = opening-leaves m (eqb kind 1) _ _ refl refl
 
 mode-leaves : (l : Laptop) (m : Memory) (kind : ℕ) (r : Request) → Leaves m (withMarking m (hearMode l kind r (m .heldSvids) (m .entered)))
 unfolding hearMode
 mode-leaves l m kind r = marking-leaves m (eqb kind 1) _ _ refl refl
 
-answer-leaves : (l : Laptop) (m : Memory) (x : Message) → Leaves m (hearAnswer l m x)
+answer-leaves : (l : Laptop) (m : Memory) (at : Edition) (x : Message) → Leaves m (hearAnswer l m at x)
 unfolding hearAnswer
-answer-leaves l m x =
-    either m (eqb (x .head .command) 1) _ _ (identity-leaves l m (x .head .kind) (length (x .objects)) (padded (x .objects)))
+answer-leaves l m at x =
+    either m (eqb (x .head .command) 1) _ _ (identity-leaves l m at (x .head .kind) (length (x .objects)) (padded (x .objects)))
     (either m (eqb (x .head .command) 2) _ _ (gathering-leaves m (x .head .kind) _ (svids-leave l (x .head .kind) (halves (x .objects)) (m .svids)))
     (either m (eqb (x .head .command) 3) _ _ (storing-leaves m (x .head .kind) _ (modes-leave l (x .head .kind) (x .objects) (m .modes) (m .run)))
     (mode-leaves l m (x .head .kind) (requestOf (x .head)))))
@@ -158,10 +159,10 @@ refused-leaves : (l : Laptop) (m : Memory) (number : ℕ) → Leaves m (hear l m
 unfolding hear
 refused-leaves l m number n = refl
 
-accepted-leaves : (l : Laptop) (m : Memory) (x : Message) → Leaves m (hear l m (accepted x))
+accepted-leaves : (l : Laptop) (m : Memory) (at : Edition) (x : Message) → Leaves m (hear l m (accepted at x))
 unfolding hear
-accepted-leaves l m x =
-    either m (eqb (x .head .kind) 0) _ _ (λ n. refl) (either m (fits (l .wait) (x .head)) _ _ (answer-leaves l m x) (λ n. refl))
+accepted-leaves l m at x =
+    either m (eqb (x .head .kind) 0) _ _ (λ n. refl) (either m (fits (l .wait) (x .head)) _ _ (answer-leaves l m at x) (λ n. refl))
 
 message-leaves : (l : Laptop) (m : Memory) (o : Outcome) → Leaves m (heard l m o)
 unfolding heard
@@ -169,7 +170,7 @@ message-leaves l m o = either m (shortRuns (length (m .run)) (length (m .heldRun
   where
     go : (p : Outcome) → Leaves m (hear l m p)
     go (refused number) = refused-leaves l m number
-    go (accepted x) = accepted-leaves l m x
+    go (accepted at x) = accepted-leaves l m at x
 
 -- a refusal changes no lent byte: nothing that a call is lent, and nothing of the output buffer
 pub refusal-leaves : (c : Call) (l : Laptop) (m : Memory) (out : List ℕ) → (effectOf c l m out .step .refusal ≡ 0 → ⊥) →

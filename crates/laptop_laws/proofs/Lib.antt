@@ -5,6 +5,8 @@ pub mod Bits
 pub mod CatalogueGiven
 pub mod Completing
 pub mod Copies
+pub mod Editions
+pub mod EditionsOver
 pub mod First
 pub mod Fitting
 pub mod Given
@@ -19,3 +21,4 @@ pub mod Places
 pub mod Refusing
 pub mod Replacing
 pub mod Reserved
+pub mod Saying

@@ -9,8 +9,9 @@ use lib.Dec.{leb, ltb, eqb}
 use lib.ListN.{length, take}
 use borrow.Author.Tests.{eqb-true, eqb-false, leb-false}
 use Rattle.messages.specs.Layout.{headOf, Message}
-use Rattle.messages.specs.Reading.{accepted, refused, outcome, wrongLength, unstructured, wrongMajor, wrongShape, headerIn, messageIn, readRefusal, readOutcome}
+use Rattle.messages.specs.Reading.{accepted, refused, outcome, wrongLength, unstructured, wrongMajor, wrongShape, headerIn, messageIn, editionIn, readRefusal, readOutcome}
 use Rattle.messages.specs.declared.Head.{Head}
+use Rattle.messages.specs.declared.edition.Edition.{Edition}
 use Rattle.messages.specs.declared.request.Request.{Request}
 use Rattle.pages.specs.Pages.{halves}
 use Rattle.taking.specs.Taking.{verdict}
@@ -80,9 +81,9 @@ publishing-refusal kind r = go (eqb kind 3)
 
 -- answers that are never refused
 module _ (l : Laptop) where
-  pub identity-number : (kind n : ℕ) (objects svids identity : List ℕ) → hearIdentity l kind n objects svids identity .step .refusal ≡ 0
+  pub identity-number : (at : Edition) (kind n : ℕ) (objects svids identity : List ℕ) → hearIdentity l at kind n objects svids identity .step .refusal ≡ 0
   unfolding hearIdentity
-  identity-number kind n objects svids identity = go (eqb kind 1) _ _ refl refl
+  identity-number at kind n objects svids identity = go (eqb kind 1) _ _ refl refl
     where
       go : (t : Bool) (a b : Opening) → a .step .refusal ≡ 0 → b .step .refusal ≡ 0 → (cond t a b) .step .refusal ≡ 0
       go true a b ea eb = ea
@@ -277,13 +278,13 @@ module _ (l : Laptop) (m : Memory) (x : Message) where
     either true a b fa fb = fa refl
     either false a b fa fb = fb refl
 
-    answer-first : First answerLines (hearAnswer l m x .step .refusal)
+    answer-first : (at : Edition) → First answerLines (hearAnswer l m at x .step .refusal)
     unfolding hearAnswer
-    answer-first =
+    answer-first at =
         either (eqb (x .head .command) 1) _ _
         (λ e.
         let first = eqb-true (x .head .command) 1 e in
-        passed (identity-number l (x .head .kind) _ _ _ _) (λ v. omega (arith, v, first)) (λ v. omega (arith, v, first)))
+        passed (identity-number l at (x .head .kind) _ _ _ _) (λ v. omega (arith, v, first)) (λ v. omega (arith, v, first)))
         (λ n.
         either (eqb (x .head .command) 2) _ _
         (λ e.
@@ -326,10 +327,10 @@ module _ (l : Laptop) (m : Memory) (x : Message) (kinds : x .head .kind < 4) whe
       quiet (inr v) = v .0 e
   request-first e false h = inl (inl (e, h), refl)
 
-  hear-first : First (heardLines l m x) (hear l m (accepted x) .step .refusal)
+  hear-first : (at : Edition) → First (heardLines l m x) (hear l m (accepted at x) .step .refusal)
   unfolding hear
-  hear-first = go (eqb (x .head .kind) 0) (fits (l .wait) (x .head)) _ _ _ (tells-eqb (x .head .kind) 0) (tells-fits (l .wait) (x .head))
-      (request-number _ _) (λ n. answer-first l m x kinds n) unawaited-number
+  hear-first at = go (eqb (x .head .kind) 0) (fits (l .wait) (x .head)) _ _ _ (tells-eqb (x .head .kind) 0) (tells-fits (l .wait) (x .head))
+      (request-number _ _) (λ n. answer-first l m x kinds n at) unawaited-number
     where
       go : (a b : Bool) (p q r : Result) → Tells a (x .head .kind ≡ 0) → Tells b (FitsAwaited (l .wait) (x .head)) →
           p .step .refusal ≡ cond (eqb (x .head .command) 6) 0 6 → ((x .head .kind ≡ 0 → ⊥) → First (answerLines l m x) (q .step .refusal)) →
@@ -345,20 +346,20 @@ module _ (l : Laptop) (m : Memory) (x : Message) (kinds : x .head .kind < 4) whe
 
 -- any bytes
 module _ (l : Laptop) (m : Memory) (bytes : List ℕ) where
-  outcome-number : (n : ℕ) (x : Message) → hear l m (outcome n x) .step .refusal ≡ cond (eqb n 0) (hear l m (accepted x) .step .refusal) n
+  outcome-number : (n : ℕ) (at : Edition) (x : Message) → hear l m (outcome n at x) .step .refusal ≡ cond (eqb n 0) (hear l m (accepted at x) .step .refusal) n
   unfolding outcome hear
-  outcome-number n x = go (eqb n 0)
+  outcome-number n at x = go (eqb n 0)
     where
-      go : (t : Bool) → hear l m (cond t (accepted x) (refused n)) .step .refusal ≡ cond t (hear l m (accepted x) .step .refusal) n
+      go : (t : Bool) → hear l m (cond t (accepted at x) (refused n)) .step .refusal ≡ cond t (hear l m (accepted at x) .step .refusal) n
       go true = refl
       go false = refl
 
   read-first : First (readingLines bytes ++ heardLines l m (messageIn bytes)) (hear l m (readOutcome bytes) .step .refusal)
   unfolding readOutcome
   read-first =
-      subst (First (readingLines bytes ++ heardLines l m (messageIn bytes))) (sym (outcome-number (readRefusal bytes) (messageIn bytes)))
+      subst (First (readingLines bytes ++ heardLines l m (messageIn bytes))) (sym (outcome-number (readRefusal bytes) (editionIn bytes) (messageIn bytes)))
       (first-behind (readingLines bytes) (heardLines l m (messageIn bytes)) (readRefusal bytes) _ (reading-numbered bytes) (reading-first bytes)
-      (λ z. hear-first l m (messageIn bytes) (four-kinds bytes)))
+      (λ z. hear-first l m (messageIn bytes) (four-kinds bytes) (editionIn bytes)))
 
   pub message-given : First (11 when ShortRun m ∷ readingLines bytes ++ heardLines l m (messageIn bytes)) (heard l m (readOutcome bytes) .step .refusal)
   unfolding heard

@@ -8,7 +8,7 @@ use native.Mathlib.Omega.{arith}
 use lib.Dec.{leb, ltb, eqb}
 use lib.ListN.{length}
 use borrow.Author.Tests.{eqb-true}
-use Rattle.messages.specs.Layout.{Message, messageBytes, bytesOf, bytesOfObject}
+use Rattle.messages.specs.Layout.{Message, messageLength}
 use Rattle.messages.specs.Writing.{wellShaped, writeRefusal}
 use Rattle.messages.specs.declared.request.Request.{Request}
 use Rattle.laptop.specs.Calls.{Decision, refuses, accepts, sends, refusedBy, sentBy, stepOf, unless, shortRuns, isAwaiting}
@@ -55,17 +55,13 @@ module _ (l : Laptop) (m : Memory) where
   owner-numbered = omega arith
 
 -- a request
-request-bytes : (r : Request) → length (messageBytes (requestMessage r)) ≡ 4
-unfolding messageBytes bytesOf bytesOfObject
-request-bytes r = refl
-
 module _ (l : Laptop) (out : List ℕ) where
   sends-number : (x : Message) (after : Laptop) → stepOf l (sends x after) (length out) .refusal ≡ writeRefusal x (length out)
   unfolding stepOf
   sends-number x after = go (eqb (writeRefusal x (length out)) 0) refl
     where
       go : (t : Bool) → eqb (writeRefusal x (length out)) 0 ≡ t →
-          (cond t (sentBy (length (messageBytes x)) after) (refusedBy (writeRefusal x (length out)) l)) .refusal ≡ writeRefusal x (length out)
+          (cond t (sentBy (messageLength x) after) (refusedBy (writeRefusal x (length out)) l)) .refusal ≡ writeRefusal x (length out)
       go true e = sym (eqb-true _ 0 e)
       go false e = refl
 
@@ -74,8 +70,7 @@ module _ (l : Laptop) (out : List ℕ) where
   write-first r =
       first-test (not (wellShaped (requestMessage r))) 5 _ (11 when (length out < 4) ∷ []) _ (tells-not (wellShaped (requestMessage r)))
       (λ e.
-      first-test (ltb (length out) (length (messageBytes (requestMessage r)))) 11 (length out < 4) [] 0
-      (subst (λ (n : ℕ). Tells (ltb (length out) n) (length out < 4)) (sym (request-bytes r)) (tells-ltb (length out) 4)) (λ f. refl))
+      first-test (ltb (length out) 4) 11 (length out < 4) [] 0 (tells-ltb (length out) 4) (λ f. refl))
 
   pub sent-first : (r : Request) (after : Laptop) → First (sendingLines r out) (stepOf l (sends (requestMessage r) after) (length out) .refusal)
   sent-first r after = subst (First (sendingLines r out)) (sym (sends-number (requestMessage r) after)) (write-first r)

@@ -7,9 +7,10 @@ use native.Mathlib.Omega.{arith}
 use lib.Dec.{leb, ltb, eqb}
 use lib.ListN.{length}
 use borrow.Author.Tests.{ne-eqb, eqb-true}
-use Rattle.messages.specs.Layout.{Message, messageBytes}
-use Rattle.messages.specs.Reading.{accepted, refused, outcome, wrongLength, unstructured, wrongMajor, wrongShape, headerIn, messageIn, readRefusal, readOutcome}
+use Rattle.messages.specs.Layout.{Message, messageLength}
+use Rattle.messages.specs.Reading.{accepted, refused, outcome, wrongLength, unstructured, wrongMajor, wrongShape, headerIn, messageIn, editionIn, readRefusal, readOutcome}
 use Rattle.messages.specs.Writing.{writeRefusal}
+use Rattle.messages.specs.declared.edition.Edition.{Edition}
 use Rattle.messages.specs.declared.request.Request.{Request}
 use Rattle.pages.specs.Pages.{halves}
 use Rattle.taking.specs.declared.Verdict.{Verdict}
@@ -78,9 +79,9 @@ module _ (l : Laptop) where
   step-alone (accepts told after) f room n = absurd (n refl)
   step-alone (sends m after) f room n = go (eqb (writeRefusal m room) 0) n
     where
-      go : (t : Bool) → ((cond t (sentBy (length (messageBytes m)) after) (refusedBy (writeRefusal m room) l)) .refusal ≡ 0 → ⊥) →
-          _≡_ {A = Step} (cond t (sentBy (length (messageBytes m)) after) (refusedBy (writeRefusal m room) l))
-          (refusedBy ((cond t (sentBy (length (messageBytes m)) after) (refusedBy (writeRefusal m room) l)) .refusal) l)
+      go : (t : Bool) → ((cond t (sentBy (messageLength m) after) (refusedBy (writeRefusal m room) l)) .refusal ≡ 0 → ⊥) →
+          _≡_ {A = Step} (cond t (sentBy (messageLength m) after) (refusedBy (writeRefusal m room) l))
+          (refusedBy ((cond t (sentBy (messageLength m) after) (refusedBy (writeRefusal m room) l)) .refusal) l)
       go true k = absurd (k refl)
       go false k = refl
 
@@ -194,10 +195,10 @@ module _ (l : Laptop) (bytes : List ℕ) where
   result-either true a b fa fb = fa refl
   result-either false a b fa fb = fb refl
 
-  answer-so : (m : Memory) → So (hearAnswer l m x .step)
+  answer-so : (m : Memory) (at : Edition) → So (hearAnswer l m at x .step)
   unfolding hearAnswer
-  answer-so m =
-      result-either (eqb (x .head .command) 1) _ _ (λ e. so-taken _ (identity-number l (x .head .kind) _ _ _ _))
+  answer-so m at =
+      result-either (eqb (x .head .command) 1) _ _ (λ e. so-taken _ (identity-number l at (x .head .kind) _ _ _ _))
       (λ e.
       result-either (eqb (x .head .command) 2) _ _ (λ f. publishing-so (x .head .kind) _ (svids-drops f (halves (x .objects)) (m .svids)))
       (λ f.
@@ -226,12 +227,12 @@ module _ (l : Laptop) (bytes : List ℕ) where
       go true false p e = refl
       go false b p e = refl
 
-  accepted-so : (m : Memory) → So (hear l m (accepted x) .step)
+  accepted-so : (m : Memory) (at : Edition) → So (hear l m (accepted at x) .step)
   unfolding hear
-  accepted-so m =
+  accepted-so m at =
       result-either (eqb (x .head .kind) 0) _ _
       (λ e. request-so (ne-eqb (x .head .kind) 1 (λ z. omega (arith, z, eqb-true (x .head .kind) 0 e))) _ _)
-      (λ e. result-either (fits (l .wait) (x .head)) _ _ (λ g. answer-so m) (λ g. unawaited-so))
+      (λ e. result-either (fits (l .wait) (x .head)) _ _ (λ g. answer-so m at) (λ g. unawaited-so))
 
   -- 1, 2, 3 and 5 leave the state alone
   read-left : leftBy (readRefusal bytes) (message bytes) l ≡ l
@@ -246,18 +247,18 @@ module _ (l : Laptop) (bytes : List ℕ) where
       go false false false true = refl
       go false false false false = refl
 
-  outcome-so : (m : Memory) (n : ℕ) → leftBy n (message bytes) l ≡ l → So (hear l m (outcome n x) .step)
+  outcome-so : (m : Memory) (n : ℕ) (at : Edition) → leftBy n (message bytes) l ≡ l → So (hear l m (outcome n at x) .step)
   unfolding outcome hear
-  outcome-so m n e = go (eqb n 0)
+  outcome-so m n at e = go (eqb n 0)
     where
-      go : (t : Bool) → So (hear l m (cond t (accepted x) (refused n)) .step)
-      go true = accepted-so m
+      go : (t : Bool) → So (hear l m (cond t (accepted at x) (refused n)) .step)
+      go true = accepted-so m at
       go false = λ z. ap (refusedBy n) (sym e)
 
   message-so : (m : Memory) → So (heard l m (readOutcome bytes) .step)
   unfolding heard readOutcome
   message-so m =
-      result-either (shortRuns (length (m .run)) (length (m .heldRun))) _ _ (λ e n. refl) (λ e. outcome-so m (readRefusal bytes) read-left)
+      result-either (shortRuns (length (m .run)) (length (m .heldRun))) _ _ (λ e n. refl) (λ e. outcome-so m (readRefusal bytes) (editionIn bytes) read-left)
 
 -- any call
 module _ (l : Laptop) (m : Memory) (out : List ℕ) where

@@ -9,11 +9,12 @@ use lib.Dec.{leb, ltb, eqb}
 use lib.ListN.{length}
 use borrow.Author.Tests.{eqb-true, eqb-false}
 use Rattle.laws.specs.Padded.{padded}
-use Rattle.messages.specs.Layout.{Message, messageBytes}
-use Rattle.messages.specs.Reading.{accepted, refused, outcome, messageIn, readRefusal, readOutcome}
+use Rattle.messages.specs.Layout.{Message, messageLength}
+use Rattle.messages.specs.Reading.{accepted, refused, outcome, messageIn, editionIn, readRefusal, readOutcome}
 use Rattle.messages.specs.Requests.{requestOf}
 use Rattle.messages.specs.Writing.{writeRefusal}
 use Rattle.messages.specs.declared.Head.{Head}
+use Rattle.messages.specs.declared.edition.Edition.{Edition}
 use Rattle.messages.specs.declared.request.Request.{Request}
 use Rattle.pages.specs.Pages.{halves}
 use Rattle.taking.specs.declared.Verdict.{Verdict}
@@ -62,7 +63,7 @@ step-keeps l (refuses number after) k room = k
 step-keeps l (accepts told after) k room = k
 step-keeps l (sends m after) k room = go (eqb (writeRefusal m room) 0)
   where
-    go : (t : Bool) → (cond t (sentBy (length (messageBytes m)) after) (refusedBy (writeRefusal m room) l)) .laptop .held ≡ l .held
+    go : (t : Bool) → (cond t (sentBy (messageLength m) after) (refusedBy (writeRefusal m room) l)) .laptop .held ≡ l .held
     go true = k
     go false = refl
 
@@ -175,9 +176,9 @@ module _ (l : Laptop) (m : Memory) (when : Type 0) where
         go false e h = inr (h, left-holds k e)
 
   -- no answer to Identity, Enter or Exit publishes
-  identity-holds : (when → ⊥) → (kind n : ℕ) (objects : List ℕ) → Holds (withOpening m (hearIdentity l kind n objects (m .svids) (m .identity)))
+  identity-holds : (when → ⊥) → (at : Edition) (kind n : ℕ) (objects : List ℕ) → Holds (withOpening m (hearIdentity l at kind n objects (m .svids) (m .identity)))
   unfolding hearIdentity
-  identity-holds none kind n objects = go (eqb kind 1) _ _ refl refl
+  identity-holds none at kind n objects = go (eqb kind 1) _ _ refl refl
     where
       go : (t : Bool) (a b : Opening) → StepKeeps l (a .step) → StepKeeps l (b .step) → Holds (withOpening m (cond t a b))
       go true a b ka kb = inr (none, same-held l m (a .step .laptop .held) ka)
@@ -206,13 +207,13 @@ module _ (l : Laptop) (m : Memory) (x : Message) (kinds : x .head .kind < 4) whe
   abbrev When : Type 0
   When = Fits × MakesWhole l m x
 
-  answer-holds : Fits → (x .head .kind ≡ 0 → ⊥) → Holds l m When (hearAnswer l m x)
+  answer-holds : (at : Edition) → Fits → (x .head .kind ≡ 0 → ⊥) → Holds l m When (hearAnswer l m at x)
   unfolding hearAnswer
-  answer-holds fit answers =
+  answer-holds at fit answers =
       holds-either l m When (eqb (x .head .command) 1) _ _
       (λ e.
       let first = eqb-true (x .head .command) 1 e in
-      identity-holds l m When (λ w. other-not l m x (λ z. omega (arith, z, first)) (λ z. omega (arith, z, first)) (w .1)) (x .head .kind)
+      identity-holds l m When (λ w. other-not l m x (λ z. omega (arith, z, first)) (λ z. omega (arith, z, first)) (w .1)) at (x .head .kind)
       (length (x .objects)) (padded (x .objects)))
       (λ n.
       holds-either l m When (eqb (x .head .command) 2) _ _
@@ -237,16 +238,16 @@ module _ (l : Laptop) (m : Memory) (x : Message) (kinds : x .head .kind < 4) whe
       fitting : (y : Laptop) → Tells (isWhole y) (MakesWhole l m x) → Tells (isWhole y) When
       fitting y h = tells-as (isWhole y) (MakesWhole l m x) When (λ w. (fit, w)) (λ w. w .1) h
 
-  read-holds : Holds l m When (hear l m (accepted x))
+  read-holds : (at : Edition) → Holds l m When (hear l m (accepted at x))
   unfolding hear
-  read-holds =
+  read-holds at =
       holds-either l m When (eqb (x .head .kind) 0) _ _
       (λ e.
       let is = eqb-true (x .head .kind) 0 e in
       inr (λ w. kind-not l m x (λ z. omega (arith, z, is)) (λ z. omega (arith, z, is)) (w .1), same-held l m _ (request-keeps l (x .head) _ _)))
       (λ e.
       holds-either l m When (fits (l .wait) (x .head)) _ _
-      (λ f. answer-holds (tells-true _ _ (tells-fits (l .wait) (x .head)) f) (eqb-false (x .head .kind) 0 e))
+      (λ f. answer-holds at (tells-true _ _ (tells-fits (l .wait) (x .head)) f) (eqb-false (x .head .kind) 0 e))
       (λ f. inr (λ w. tells-false _ _ (tells-fits (l .wait) (x .head)) f (w .0), same-held l m _ (unawaited-keeps l (x .head)))))
 
 -- any bytes
@@ -254,14 +255,14 @@ module _ (l : Laptop) (m : Memory) (bytes : List ℕ) where
   abbrev Whole : Type 0
   Whole = Publishes (message bytes) l m
 
-  outcome-holds : (n : ℕ) → readRefusal bytes ≡ n → (ShortRun m → ⊥) → Holds l m Whole (hear l m (outcome n (messageIn bytes)))
+  outcome-holds : (n : ℕ) → readRefusal bytes ≡ n → (ShortRun m → ⊥) → Holds l m Whole (hear l m (outcome n (editionIn bytes) (messageIn bytes)))
   unfolding outcome hear
   outcome-holds n e long = go (eqb n 0) refl
     where
-      go : (t : Bool) → eqb n 0 ≡ t → Holds l m Whole (hear l m (cond t (accepted (messageIn bytes)) (refused n)))
-      go true z = more (read-holds l m (messageIn bytes) (four-kinds bytes))
+      go : (t : Bool) → eqb n 0 ≡ t → Holds l m Whole (hear l m (cond t (accepted (editionIn bytes) (messageIn bytes)) (refused n)))
+      go true z = more (read-holds l m (messageIn bytes) (four-kinds bytes) (editionIn bytes))
         where
-          more : Holds l m (When l m (messageIn bytes) (four-kinds bytes)) (hear l m (accepted (messageIn bytes))) → Holds l m Whole (hear l m (accepted (messageIn bytes)))
+          more : Holds l m (When l m (messageIn bytes) (four-kinds bytes)) (hear l m (accepted (editionIn bytes) (messageIn bytes))) → Holds l m Whole (hear l m (accepted (editionIn bytes) (messageIn bytes)))
           more (inl h) = inl ((long, e ∙ eqb-true n 0 z, h .0 .0, h .0 .1), h .1, h .2)
           more (inr h) = inr (λ w. h .0 (w .2, w .3), h .1)
       go false z = inr (λ w. eqb-false n 0 z (sym e ∙ w .1), refl)

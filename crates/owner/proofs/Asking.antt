@@ -7,6 +7,7 @@ use lib.Dec.{eqb}
 use lib.ListN.{length, getD, drop, drop-of-length-le}
 use borrow.Author.Tests.{eq-eqb, ne-eqb}
 use Rattle.pages.proofs.Scanning.{next}
+use Rattle.messages.specs.Editions.{ours}
 use Rattle.messages.specs.Requests.{identityCommand, svidsCommand, modesCommand}
 use Rattle.messages.specs.Table.{pdSid}
 use Rattle.messages.specs.declared.request.Request.{Request}
@@ -73,11 +74,11 @@ any-none l i h = ap anyEntered (drop-of-length-le l h)
 
 -- Identity awaited
 pub identity-awaits : (l : Laptop) (r : Request) → r ≡ discover pdSid identityCommand →
-    record { wait = Answer r; candidate = Absent; gathered = l .gathered; stored = l .stored; pages = 0; held = l .held } ≡ identityAsked l
+    record { wait = Answer r; candidate = Absent; gathered = l .gathered; stored = l .stored; pages = 0; held = l .held; edition = ours } ≡ identityAsked l
 identity-awaits l r e =
     ap
     (λ (x : Request).
-    record { wait = Answer x; candidate = Absent; gathered = l .gathered; stored = l .stored; pages = 0; held = l .held })
+    record { wait = Answer x; candidate = Absent; gathered = l .gathered; stored = l .stored; pages = 0; held = l .held; edition = ours })
     e
 
 -- a request sent

@@ -18,6 +18,7 @@ use laptop::short_runs;
 use laptop::six_bits;
 use messages::IDENTITY;
 use messages::MODES;
+use messages::OURS;
 use messages::PD_SID;
 use messages::REQ;
 use messages::Request;
@@ -74,12 +75,13 @@ fn awaiting(request: Request, laptop: Laptop) -> Laptop
     }
 }
 
-// Sends a request; a buffer that is too short is refused, and the laptop stays as it was.
+// Sends a request at the edition of the laptop that it leaves; a buffer that is too short is refused, and the laptop stays as it was.
 fn send(laptop: Laptop, after: Laptop, request: Request, out: &mut [u8]) -> Step
     ensures { λ r. ⌜ Stepped laptop (sends (requestMessage request) after) (now (out .entry)) r (now (out .exit)) ⌝ }
 {
     let none = [0u32; 0];
-    let number = writing::write(head_for(request, REQ), &none, out);
+    let edition = after.edition;
+    let number = writing::write(edition, head_for(request, REQ), &none, out);
     if number != 0 {
         return refused(number, laptop);
     }
@@ -107,7 +109,7 @@ fn discover(svid: u16, command: u8) -> Request
     }
 }
 
-// Sending Identity sets the page count to 0, and leaves no candidate.
+// Sending Identity sets the page count to 0, and leaves no candidate; it goes out at our edition.
 fn identity_asked(laptop: Laptop) -> Laptop
     ensures { λ r. ⌜ r ≡ identityAsked laptop ⌝ }
 {
@@ -115,6 +117,7 @@ fn identity_asked(laptop: Laptop) -> Laptop
         wait: Wait::Answer(discover(PD_SID, IDENTITY)),
         candidate: Candidate::Absent,
         pages: 0,
+        edition: OURS,
         ..laptop
     }
 }

@@ -24,7 +24,7 @@ same-length c = search needs
 
 returns : tie.Need-returns
 returns c = let a = c .before .before .before .before .before .before .before .before .before .args in
-    let w = written-head _ _ [] (a .out .now) _ _ (c .before .before .before .before .before .before .before .head-for .ensures) (c .before .before .before .before .write .ensures) in
+    let w = written-head (a .after .edition) _ _ [] (a .out .now) _ _ (c .before .before .before .before .before .before .before .head-for .ensures) (c .before .before .before .before .write .ensures) in
     send-refused (a .laptop) (a .after) (requestMessage (a .request)) (a .out .now) _ _ w _ (c .before .if1 .taken) (c .refused .ensures)
 
 same-length-2 : tie.Need-same-length-2
@@ -32,7 +32,7 @@ same-length-2 c = search needs
 
 returns-2 : tie.Need-returns-2
 returns-2 c = let a = c .before .before .before .before .before .before .before .before .args in
-    let w = written-head _ _ [] (a .out .now) _ _ (c .before .before .before .before .before .before .head-for .ensures) (c .before .before .before .write .ensures) in
+    let w = written-head (a .after .edition) _ _ [] (a .out .now) _ _ (c .before .before .before .before .before .before .head-for .ensures) (c .before .before .before .write .ensures) in
     send-whole (a .laptop) (a .after) (requestMessage (a .request)) (a .out .now) _ _ w _ (c .if1 .left) refl
 
 pub send-spec : {M : Type 1} → statement M

@@ -22,7 +22,7 @@ returns c =
     let a = c .before .before .before .before .before .before .before .before .args in
     let m = memory (a .svids .now) (a .modes .now) (a .identity .now) (a .run .now) (a .held-svids .now) (a .held-modes .now) (a .held-identity .now) (a .held-run .now) (a .entered .now) in
     let other = not-true _ (sym (ap not (c .before .before .before .before .before .brings-part .ensures)) ∙ c .before .before .before .before .if1 .taken) in
-    answer-mode (a .laptop) m (a .head) (a .count) (a .objects .now) (c .before .before .before .before .before .before .before .before .pre .0) (c .before .before .before .before .before .before .before .before .pre .1) other _ (c .before .before .before .request-of .ensures) _ refl _ _ (c .hear-mode .ensures .0) (c .hear-mode .ensures .1)
+    answer-mode (a .laptop) m (a .edition) (a .head) (a .count) (a .objects .now) (c .before .before .before .before .before .before .before .before .pre .0) (c .before .before .before .before .before .before .before .before .pre .1) other _ (c .before .before .before .request-of .ensures) _ refl _ _ (c .hear-mode .ensures .0) (c .hear-mode .ensures .1)
 
 gather-requires : tie.Need-gather-requires
 gather-requires c κs = search needs
@@ -39,7 +39,7 @@ returns-2 c =
     let m = memory (a .svids .now) (a .modes .now) (a .identity .now) (a .run .now) (a .held-svids .now) (a .held-modes .now) (a .held-identity .now) (a .held-run .now) (a .entered .now) in
     let part = not-false _ (sym (ap not (c .before .before .before .before .before .before .before .before .before .before .before .brings-part .ensures)) ∙ c .before .before .before .before .before .before .before .before .before .before .if1 .left) in
     let gathered = c .before .before .before .before .before .gather .ensures (a .held-svids .now) (a .held-modes .now) (a .held-identity .now) (a .held-run .now) (a .entered .now) in
-    answer-kept (a .laptop) m (a .head) (a .count) (a .objects .now) (c .before .before .before .before .before .before .before .before .before .before .before .before .before .before .pre .0) (c .before .before .before .before .before .before .before .before .before .before .before .before .before .before .pre .1) part _ _ gathered (not-true _ (sym (ap not (c .before .completes .ensures)) ∙ c .if2 .taken))
+    answer-kept (a .laptop) m (a .edition) (a .head) (a .count) (a .objects .now) (c .before .before .before .before .before .before .before .before .before .before .before .before .before .before .pre .0) (c .before .before .before .before .before .before .before .before .before .before .before .before .before .before .pre .1) part _ _ gathered (not-true _ (sym (ap not (c .before .completes .ensures)) ∙ c .if2 .taken))
 
 publish-requires : tie.Need-publish-requires
 publish-requires c κs = search needs
@@ -57,7 +57,7 @@ returns-3 c =
     let part = not-false _ (sym (ap not (c .before .before .before .before .before .before .before .before .before .before .before .before .before .before .before .before .before .before .before .before .before .before .brings-part .ensures)) ∙ c .before .before .before .before .before .before .before .before .before .before .before .before .before .before .before .before .before .before .before .before .before .if1 .left) in
     let gathered = c .before .before .before .before .before .before .before .before .before .before .before .before .before .before .before .before .gather .ensures (a .held-svids .now) (a .held-modes .now) (a .held-identity .now) (a .held-run .now) (a .entered .now) in
     let whole = not-false _ (sym (ap not (c .before .before .before .before .before .before .before .before .before .before .before .before .completes .ensures)) ∙ c .before .before .before .before .before .before .before .before .before .before .before .if2 .left) in
-    answer-published (a .laptop) m (a .head) (a .count) (a .objects .now) (c .before .before .before .before .before .before .before .before .before .before .before .before .before .before .before .before .before .before .before .before .before .before .before .before .before .pre .0) (c .before .before .before .before .before .before .before .before .before .before .before .before .before .before .before .before .before .before .before .before .before .before .before .before .before .pre .1) part _ _ gathered whole _ _ _ _ _ (c .before .before .publish .ensures)
+    answer-published (a .laptop) m (a .edition) (a .head) (a .count) (a .objects .now) (c .before .before .before .before .before .before .before .before .before .before .before .before .before .before .before .before .before .before .before .before .before .before .before .before .before .pre .0) (c .before .before .before .before .before .before .before .before .before .before .before .before .before .before .before .before .before .before .before .before .before .before .before .before .before .pre .1) part _ _ gathered whole _ _ _ _ _ (c .before .before .publish .ensures)
 
 pub hear-answer-spec : {M : Type 1} → statement M
 hear-answer-spec =

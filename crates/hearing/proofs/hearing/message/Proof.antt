@@ -78,7 +78,7 @@ returns-3 c =
     let a = c .before .before .before .before .before .before .before .before .before .before .before .before .before .before .before .args in
     let m = memory (a .svids .now) (a .modes .now) (a .identity .now) (a .run .now) (a .held-svids .now) (a .held-modes .now) (a .held-identity .now) (a .held-run .now) (a .entered .now) in
     let long = sym (c .before .before .before .before .before .before .before .before .before .short-runs .ensures) ∙ c .before .before .before .before .before .before .before .before .if1 .left in
-    let e = results _ _ (heard-request (a .laptop) m long (a .bytes .now) (c .before .before .before .before .before .before .before .read .result) _ _ (c .before .before .before .before .before .before .before .read .ensures) (c .before .before .before .before .before .outcome .given .1) (c .before .before .if2 .taken)) in
+    let e = results _ _ (heard-request (a .laptop) m long (a .bytes .now) (c .before .before .before .before .before .before .before .read .result) _ _ _ (c .before .before .before .before .before .before .before .read .ensures) (c .before .before .before .before .before .outcome .given .1) (c .before .before .if2 .taken)) in
     (c .hear-request .ensures ∙ e .0, e .1)
 
 fits-requires : tie.Need-fits-requires
@@ -99,13 +99,13 @@ returns-4 c =
     let m = memory (a .svids .now) (a .modes .now) (a .identity .now) (a .run .now) (a .held-svids .now) (a .held-modes .now) (a .held-identity .now) (a .held-run .now) (a .entered .now) in
     let long = sym (c .before .before .before .before .before .before .before .before .before .before .short-runs .ensures) ∙ c .before .before .before .before .before .before .before .before .before .if1 .left in
     let other = not-true _ (sym (ap not (c .before .before .fits2 .ensures)) ∙ c .before .if3 .taken) in
-    let e = results _ _ (heard-unawaited (a .laptop) m long (a .bytes .now) (c .before .before .before .before .before .before .before .before .read .result) _ _ (c .before .before .before .before .before .before .before .before .read .ensures) (c .before .before .before .before .before .before .outcome .given .1) (c .before .before .before .if2 .left) other) in
+    let e = results _ _ (heard-unawaited (a .laptop) m long (a .bytes .now) (c .before .before .before .before .before .before .before .before .read .result) _ _ _ (c .before .before .before .before .before .before .before .before .read .ensures) (c .before .before .before .before .before .before .outcome .given .1) (c .before .before .before .if2 .left) other) in
     (c .hear-unawaited .ensures ∙ e .0, e .1)
 
 hear-answer-requires : tie.Need-hear-answer-requires
 hear-answer-requires c κs =
     let a = c .before .before .before .before .before .before .before .before .before .before .before .before .before .before .before .before .before .before .before .before .before .before .before .before .before .before .args in
-    (count-few (a .bytes .now) (c .before .before .before .before .before .before .before .before .before .before .before .before .before .before .before .before .before .before .read .result) _ _ (c .before .before .before .before .before .before .before .before .before .before .before .before .before .before .before .before .before .before .read .ensures) (c .before .before .before .before .before .before .before .before .before .before .before .before .before .before .before .before .outcome .given .1), words-padded (a .bytes .now) (c .before .before .before .before .before .before .before .before .before .before .before .before .before .before .before .before .before .before .read .result) _ _ (c .before .before .before .before .before .before .before .before .before .before .before .before .before .before .before .before .before .before .read .ensures) (c .before .before .before .before .before .before .before .before .before .before .before .before .before .before .before .before .outcome .given .1))
+    (count-few (a .bytes .now) (c .before .before .before .before .before .before .before .before .before .before .before .before .before .before .before .before .before .before .read .result) _ _ _ (c .before .before .before .before .before .before .before .before .before .before .before .before .before .before .before .before .before .before .read .ensures) (c .before .before .before .before .before .before .before .before .before .before .before .before .before .before .before .before .outcome .given .1), words-padded (a .bytes .now) (c .before .before .before .before .before .before .before .before .before .before .before .before .before .before .before .before .before .before .read .result) _ _ _ (c .before .before .before .before .before .before .before .before .before .before .before .before .before .before .before .before .before .before .read .ensures) (c .before .before .before .before .before .before .before .before .before .before .before .before .before .before .before .before .outcome .given .1))
 
 same-length-9 : tie.Need-same-length-9
 same-length-9 c = search needs
@@ -119,7 +119,7 @@ returns-5 c =
     let m = memory (a .svids .now) (a .modes .now) (a .identity .now) (a .run .now) (a .held-svids .now) (a .held-modes .now) (a .held-identity .now) (a .held-run .now) (a .entered .now) in
     let long = sym (c .before .before .before .before .before .before .before .before .before .before .before .before .before .before .before .before .before .before .before .before .before .before .before .before .before .short-runs .ensures) ∙ c .before .before .before .before .before .before .before .before .before .before .before .before .before .before .before .before .before .before .before .before .before .before .before .before .if1 .left in
     let awaited = not-false _ (sym (ap not (c .before .before .before .before .before .before .before .before .before .before .before .before .before .before .before .before .before .fits2 .ensures)) ∙ c .before .before .before .before .before .before .before .before .before .before .before .before .before .before .before .before .if3 .left) in
-    results _ _ (heard-answer (a .laptop) m long (a .bytes .now) (c .before .before .before .before .before .before .before .before .before .before .before .before .before .before .before .before .before .before .before .before .before .before .before .read .result) _ _ (c .before .before .before .before .before .before .before .before .before .before .before .before .before .before .before .before .before .before .before .before .before .before .before .read .ensures) (c .before .before .before .before .before .before .before .before .before .before .before .before .before .before .before .before .before .before .before .before .before .outcome .given .1) (c .before .before .before .before .before .before .before .before .before .before .before .before .before .before .before .before .before .before .if2 .left) awaited ∙ sym (c .before .before .before .before .hear-answer .ensures))
+    results _ _ (heard-answer (a .laptop) m long (a .bytes .now) (c .before .before .before .before .before .before .before .before .before .before .before .before .before .before .before .before .before .before .before .before .before .before .before .read .result) _ _ _ (c .before .before .before .before .before .before .before .before .before .before .before .before .before .before .before .before .before .before .before .before .before .before .before .read .ensures) (c .before .before .before .before .before .before .before .before .before .before .before .before .before .before .before .before .before .before .before .before .before .outcome .given .1) (c .before .before .before .before .before .before .before .before .before .before .before .before .before .before .before .before .before .before .if2 .left) awaited ∙ sym (c .before .before .before .before .hear-answer .ensures))
 
 pub message-spec : {M : Type 1} → statement M
 message-spec =

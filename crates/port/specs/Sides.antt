@@ -44,7 +44,7 @@ ownOf Cable p = p .cable
 
 abbrev pub ownIn : Laptop → Own
 ownIn l =
-    record { candidate = l .candidate; gathered = l .gathered; stored = l .stored; pages = l .pages; held = l .held }
+    record { candidate = l .candidate; gathered = l .gathered; stored = l .stored; pages = l .pages; held = l .held; edition = l .edition }
 
 abbrev pub laptopWith : Laptop·Wait → Own → Laptop
 laptopWith wait own =
@@ -55,6 +55,7 @@ laptopWith wait own =
       stored = own .stored;
       pages = own .pages;
       held = own .held;
+      edition = own .edition;
     }
 
 -- the laptop of 01 that a side sees

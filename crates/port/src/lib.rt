@@ -15,6 +15,7 @@ use laptop::Candidate;
 use laptop::Held;
 use laptop::Size;
 use laptop::Told;
+use messages::Edition;
 use messages::Request;
 pub use owners::drop;
 pub use owners::enter;
@@ -24,6 +25,7 @@ pub use owners::start_over;
 pub use readings::report;
 pub use readings::write_catalogue;
 pub use sides::seen;
+pub use sides::stepped_on;
 pub use waiting::entry_timer;
 pub use waiting::exit_timer;
 pub use waiting::protocol_error;
@@ -48,6 +50,7 @@ pub struct Own {
     pub stored: u8,
     pub pages: u8,
     pub held: Held,
+    pub edition: Edition,
 }
 
 pub struct Port {

@@ -89,12 +89,14 @@ pub(crate) fn own_in(laptop: Laptop) -> Own
     let candidate = laptop.candidate;
     let gathered = laptop.gathered;
     let held = laptop.held;
+    let edition = laptop.edition;
     Own {
         candidate,
         gathered,
         stored: laptop.stored,
         pages: laptop.pages,
         held,
+        edition,
     }
 }
 
@@ -107,6 +109,7 @@ pub fn seen(side: Side, port: Port) -> Laptop
     let candidate = own.candidate;
     let gathered = own.gathered;
     let held = own.held;
+    let edition = own.edition;
     Laptop {
         wait: wait_seen(side, wait),
         candidate,
@@ -114,6 +117,7 @@ pub fn seen(side: Side, port: Port) -> Laptop
         stored: own.stored,
         pages: own.pages,
         held,
+        edition,
     }
 }
 
@@ -140,7 +144,7 @@ fn put_back(side: Side, laptop: Laptop, port: Port) -> Port
 }
 
 // What a call of document 01 on a side gave, as the port's.
-pub(crate) fn stepped_on(side: Side, port: Port, step: laptop::Step) -> Step
+pub fn stepped_on(side: Side, port: Port, step: laptop::Step) -> Step
     ensures { λ r. ⌜ r ≡ steppedOn side port step ⌝ }
 {
     let told = step.told;

@@ -21,7 +21,7 @@ use Rattle.port_laws.proofs.Sides.{not-others, Waits, own-waits, other-
 use Rattle.port_laws.proofs.OneCall.{port-on, put-on, idle-kept, kept-in, own-side, others-change-nothing, own-as-laptop, blocked-changes-nothing}
 
 -- A HISTORY. What is left out changes nothing of the side
-left-out-leaves : (side : Side) (c : Call) (out : List ℕ) (k : Kept) → isLeftOut side c k ≡ true → ofSide side (keptBy c out k) ≡ ofSide side k
+pub left-out-leaves : (side : Side) (c : Call) (out : List ℕ) (k : Kept) → isLeftOut side c k ≡ true → ofSide side (keptBy c out k) ≡ ofSide side k
 left-out-leaves side c out k e = go (isOthersCall side c (k .port .wait)) refl
   where
     go : (t : Bool) → isOthersCall side c (k .port .wait) ≡ t → ofSide side (keptBy c out k) ≡ ofSide side k

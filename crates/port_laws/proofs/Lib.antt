@@ -1,5 +1,6 @@
 -- What the two sides keep from each other, a file for each topic.
 pub mod Cases
+pub mod Editions
 pub mod Given
 pub mod Isolation
 pub mod Keeping

@@ -8,6 +8,7 @@ use lib.ListN.{length}
 use borrow.Author.Tests.{ne-eqb}
 use Rattle.messages.specs.Layout.{Message, req}
 use Rattle.messages.specs.Reading.{Outcome, accepted, readOutcome}
+use Rattle.messages.specs.declared.edition.Edition.{Edition}
 use Rattle.laptop.specs.Calls.{Decision, refusedBy, stepOf, unless, shortRuns}
 use Rattle.laptop.specs.State.{Memory, isOpen, dropped}
 use Rattle.laptop.specs.declared.Laptop.{Laptop}
@@ -96,10 +97,10 @@ module _ (l : Laptop) (m : Memory) (x : Message) (idle : l .wait ≡ Laptop·Not
       go true false e = refl
       go false t e = absurd (false≢true e)
 
-  answer-six : shortRuns (length (m .run)) (length (m .heldRun)) ≡ false → eqb (x .head .kind) req ≡ false →
-      heard l m (accepted x) .step ≡ refusedBy 6 (leftByUnawaited (x .head) l)
+  answer-six : (at : Edition) → shortRuns (length (m .run)) (length (m .heldRun)) ≡ false → eqb (x .head .kind) req ≡ false →
+      heard l m (accepted at x) .step ≡ refusedBy 6 (leftByUnawaited (x .head) l)
   unfolding heard hear
-  answer-six long answer = rw (long, answer, ap (λ (w : Laptop·Wait). fits w (x .head)) idle) unawaited
+  answer-six at long answer = rw (long, answer, ap (λ (w : Laptop·Wait). fits w (x .head)) idle) unawaited
 
 -- what does not hold, a test tells so
 tells-none : (t : Bool) (holds : Type 0) → Tells t holds → (holds → ⊥) → t ≡ false
@@ -107,13 +108,13 @@ tells-none true holds h n = absurd (n h)
 tells-none false holds h n = refl
 
 -- an answer from the side that is not awaited is 6: a page drops that side's open list, and another leaves the state alone
-module _ (side : Side) (p : Port) (m : Memory) (bytes out : List ℕ) (x : Message) (others : isOthers side (p .wait) ≡ true) (long : ShortRun m → ⊥)
-    (read : readOutcome bytes ≡ accepted x) (answer : x .head .kind ≡ req → ⊥) where
+module _ (side : Side) (p : Port) (m : Memory) (bytes out : List ℕ) (at : Edition) (x : Message) (others : isOthers side (p .wait) ≡ true) (long : ShortRun m → ⊥)
+    (read : readOutcome bytes ≡ accepted at x) (answer : x .head .kind ≡ req → ⊥) where
   pub six-from-the-other-side : effectOf (message side bytes) p m out .step ≡ steppedOn side p (refusedBy 6 (leftByUnawaited (x .head) (seen side p)))
   six-from-the-other-side =
       ap (λ (o : Outcome). steppedOn side p (heard (seen side p) m o .step)) read ∙
       ap (steppedOn side p)
-      (answer-six (seen side p) m x (idle-seen side p others)
+      (answer-six (seen side p) m x (idle-seen side p others) at
       (tells-none (shortRuns (length (m .run)) (length (m .heldRun))) (ShortRun m) (tells-short (length (m .run)) (length (m .heldRun))) long)
       (ne-eqb (x .head .kind) req answer))
 

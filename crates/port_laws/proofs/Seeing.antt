@@ -52,11 +52,11 @@ module _ (l : Laptop) (m : Memory) (idle : l .wait ≡ Laptop·Nothing) where
   hear-idle : (o : Outcome) → hear l m o .step .laptop .wait ≡ Laptop·Nothing
   unfolding hear
   hear-idle (refused number) = idle
-  hear-idle (accepted x) = go (eqb (x .head .kind) req) (fits (l .wait) (x .head)) (ap (λ (w : Laptop·Wait). fits w (x .head)) idle)
+  hear-idle (accepted at x) = go (eqb (x .head .kind) req) (fits (l .wait) (x .head)) (ap (λ (w : Laptop·Wait). fits w (x .head)) idle)
     where
       go : (a b : Bool) → b ≡ false →
           (cond a (only m (hearRequest l (x .head) (length (x .objects)) (getD (x .objects) 0 0)))
-          (cond b (hearAnswer l m x) (only m (hearUnawaited l (x .head))))) .step .laptop .wait ≡ Laptop·Nothing
+          (cond b (hearAnswer l m at x) (only m (hearUnawaited l (x .head))))) .step .laptop .wait ≡ Laptop·Nothing
       go true b e = request-idle x
       go false true e = absurd (false≢true (sym e))
       go false false e = unawaited-idle x

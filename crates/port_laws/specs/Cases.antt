@@ -1,4 +1,4 @@
--- Histories of both sides, with what each call gives: 02's sentences on R-4, run on the definitions.
+-- Histories of both sides, with what each call gives: 02's sentences on R-4 and R-5, run on the definitions.
 use Prim.Native.Nat.{ℕ, _+_}
 use mathlib.Core.List.{List, [], _∷_}
 use lib.ListN.{take, replicate}
@@ -44,7 +44,7 @@ unfoldable pub linesFrom : List Call → Kept → List (List ℕ)
 linesFrom [] k = []
 linesFrom (c ∷ rest) k = lineOf c (effectIn c buffer k) ∷ linesFrom rest (keptBy c buffer k)
 
--- an exchange for each answer: Identity, a page of one SVID that ends the list, and its one mode
+-- an exchange for each answer: Identity, a page of one SVID that ends the list, and its one mode; all at 2.0
 abbrev pub identityAck : List ℕ
 identityAck = 0xFF00A041 ∷ 1 ∷ 2 ∷ 3 ∷ []
 
@@ -63,7 +63,7 @@ interleaved =
 
 abbrev pub interleavedSaid : List (List ℕ)
 interleavedSaid =
-    (0 ∷ 0 ∷ 0 ∷ 0xFF00A001 ∷ []) ∷ (0 ∷ 0 ∷ 0 ∷ []) ∷ (0 ∷ 0 ∷ 0 ∷ 0xFF00A001 ∷ []) ∷ (0 ∷ 0 ∷ 0 ∷ []) ∷ (0 ∷ 0 ∷ 0 ∷ 0xFF00A002 ∷ []) ∷ (7 ∷ 0 ∷ 0 ∷ []) ∷
+    (0 ∷ 0 ∷ 0 ∷ 0xFF00A801 ∷ []) ∷ (0 ∷ 0 ∷ 0 ∷ []) ∷ (0 ∷ 0 ∷ 0 ∷ 0xFF00A801 ∷ []) ∷ (0 ∷ 0 ∷ 0 ∷ []) ∷ (0 ∷ 0 ∷ 0 ∷ 0xFF00A002 ∷ []) ∷ (7 ∷ 0 ∷ 0 ∷ []) ∷
     (6 ∷ 0 ∷ 0 ∷ []) ∷ (0 ∷ 1 ∷ 0 ∷ []) ∷ (0 ∷ 1 ∷ 0 ∷ 0xFF01A003 ∷ []) ∷ (0 ∷ 0 ∷ 0 ∷ []) ∷ (0 ∷ 1 ∷ 0 ∷ 0xFF01A003 ∷ []) ∷ (0 ∷ 1 ∷ 2 ∷ []) ∷
     (0 ∷ 0 ∷ 0 ∷ 0xFF00A002 ∷ []) ∷ (7 ∷ 1 ∷ 2 ∷ []) ∷ (0 ∷ 1 ∷ 0 ∷ []) ∷ (0 ∷ 1 ∷ 0 ∷ 0x0002A003 ∷ []) ∷ (0 ∷ 1 ∷ 2 ∷ []) ∷ (9 ∷ 1 ∷ 2 ∷ []) ∷ []
 
@@ -77,15 +77,15 @@ latePage =
 
 abbrev pub latePageSaid : List (List ℕ)
 latePageSaid =
-    (0 ∷ 0 ∷ 0 ∷ 0xFF00A001 ∷ []) ∷ (0 ∷ 0 ∷ 0 ∷ []) ∷ (0 ∷ 0 ∷ 0 ∷ 0xFF00A001 ∷ []) ∷ (6 ∷ 0 ∷ 0 ∷ []) ∷ (0 ∷ 0 ∷ 0 ∷ []) ∷
-    (0 ∷ 0 ∷ 0 ∷ 0xFF00A001 ∷ []) ∷ []
+    (0 ∷ 0 ∷ 0 ∷ 0xFF00A801 ∷ []) ∷ (0 ∷ 0 ∷ 0 ∷ []) ∷ (0 ∷ 0 ∷ 0 ∷ 0xFF00A801 ∷ []) ∷ (6 ∷ 0 ∷ 0 ∷ []) ∷ (0 ∷ 0 ∷ 0 ∷ []) ∷
+    (0 ∷ 0 ∷ 0 ∷ 0xFF00A801 ∷ []) ∷ []
 
 -- "each side has its own two lent runs": with a short run of the partner's the partner's calls are 11, before 7 too, and the cable's are not
 unfoldable pub shortRun : List (List ℕ)
 shortRun = linesFrom (drop Partner ∷ next Cable ∷ next Partner ∷ next Cable ∷ []) (freshWith 431 432)
 
 abbrev pub shortRunSaid : List (List ℕ)
-shortRunSaid = (11 ∷ 0 ∷ 0 ∷ []) ∷ (0 ∷ 0 ∷ 0 ∷ 0xFF00A001 ∷ []) ∷ (11 ∷ 0 ∷ 0 ∷ []) ∷ (7 ∷ 0 ∷ 0 ∷ []) ∷ []
+shortRunSaid = (11 ∷ 0 ∷ 0 ∷ []) ∷ (0 ∷ 0 ∷ 0 ∷ 0xFF00A801 ∷ []) ∷ (11 ∷ 0 ∷ 0 ∷ []) ∷ (7 ∷ 0 ∷ 0 ∷ []) ∷ []
 
 -- "entered modes block discovery only on their own side", and enter asks its own side's candidate: a mode of the cable is entered, next for the cable is 13
 -- and for the partner is not; while the partner has a candidate the cable's mode is exited, and entered again
@@ -99,12 +99,30 @@ modesEntered =
 
 abbrev pub modesEnteredSaid : List (List ℕ)
 modesEnteredSaid =
-    (0 ∷ 0 ∷ 0 ∷ 0xFF00A001 ∷ []) ∷ (0 ∷ 0 ∷ 0 ∷ []) ∷ (0 ∷ 0 ∷ 0 ∷ 0xFF00A002 ∷ []) ∷ (0 ∷ 1 ∷ 0 ∷ []) ∷ (0 ∷ 1 ∷ 0 ∷ 0xFF01A003 ∷ []) ∷ (0 ∷ 1 ∷ 2 ∷ []) ∷
-    (0 ∷ 1 ∷ 2 ∷ 0xFF01A104 ∷ []) ∷ (0 ∷ 1 ∷ 2 ∷ []) ∷ (13 ∷ 1 ∷ 2 ∷ []) ∷ (12 ∷ 0 ∷ 0 ∷ []) ∷ (0 ∷ 0 ∷ 0 ∷ 0xFF00A001 ∷ []) ∷ (0 ∷ 0 ∷ 0 ∷ []) ∷
-    (0 ∷ 1 ∷ 2 ∷ 0xFF01A705 ∷ []) ∷ (0 ∷ 1 ∷ 2 ∷ []) ∷ (0 ∷ 1 ∷ 2 ∷ 0xFF01A104 ∷ []) ∷ (0 ∷ 0 ∷ 0 ∷ []) ∷ (0 ∷ 0 ∷ 2 ∷ 0xFF00A001 ∷ []) ∷ []
+    (0 ∷ 0 ∷ 0 ∷ 0xFF00A801 ∷ []) ∷ (0 ∷ 0 ∷ 0 ∷ []) ∷ (0 ∷ 0 ∷ 0 ∷ 0xFF00A002 ∷ []) ∷ (0 ∷ 1 ∷ 0 ∷ []) ∷ (0 ∷ 1 ∷ 0 ∷ 0xFF01A003 ∷ []) ∷ (0 ∷ 1 ∷ 2 ∷ []) ∷
+    (0 ∷ 1 ∷ 2 ∷ 0xFF01A104 ∷ []) ∷ (0 ∷ 1 ∷ 2 ∷ []) ∷ (13 ∷ 1 ∷ 2 ∷ []) ∷ (12 ∷ 0 ∷ 0 ∷ []) ∷ (0 ∷ 0 ∷ 0 ∷ 0xFF00A801 ∷ []) ∷ (0 ∷ 0 ∷ 0 ∷ []) ∷
+    (0 ∷ 1 ∷ 2 ∷ 0xFF01A705 ∷ []) ∷ (0 ∷ 1 ∷ 2 ∷ []) ∷ (0 ∷ 1 ∷ 2 ∷ 0xFF01A104 ∷ []) ∷ (0 ∷ 0 ∷ 0 ∷ []) ∷ (0 ∷ 0 ∷ 2 ∷ 0xFF00A801 ∷ []) ∷ []
+
+-- "per side": a partner of the first edition and a cable of 2.0 are each asked at their own. A page at 2.1 changes nothing. Identity is asked at 2.1, and
+-- once the cable has declined it a mode of the cable is entered at 2.1, while the partner stays at 1.0
+unfoldable pub editions : List (List ℕ)
+editions =
+    linesFrom
+    (next Partner ∷ says Partner (0xFF008041 ∷ 1 ∷ 2 ∷ 3 ∷ []) ∷ next Cable ∷ says Cable identityAck ∷ next Partner ∷ says Partner (0xFF008042 ∷ 0xFF010000 ∷ []) ∷
+    next Cable ∷ says Cable (0xFF00A842 ∷ 0xFF010000 ∷ []) ∷ next Partner ∷ says Partner (0xFF018043 ∷ 0x405 ∷ []) ∷ next Cable ∷
+    says Cable (0xFF01A043 ∷ 0x405 ∷ []) ∷ enter Cable 0xFF01 1 ∷ responseTimer ∷ timer 4 4 ∷ next Cable ∷ says Cable (0xFF00A081 ∷ []) ∷ enter Cable 0xFF01 1 ∷
+    says Cable (0xFF01A144 ∷ []) ∷ enter Partner 0xFF01 1 ∷ [])
+    (freshWith 432 432)
+
+abbrev pub editionsSaid : List (List ℕ)
+editionsSaid =
+    (0 ∷ 0 ∷ 0 ∷ 0xFF00A801 ∷ []) ∷ (0 ∷ 0 ∷ 0 ∷ []) ∷ (0 ∷ 0 ∷ 0 ∷ 0xFF00A801 ∷ []) ∷ (0 ∷ 0 ∷ 0 ∷ []) ∷ (0 ∷ 0 ∷ 0 ∷ 0xFF008002 ∷ []) ∷ (0 ∷ 1 ∷ 0 ∷ []) ∷
+    (0 ∷ 0 ∷ 0 ∷ 0xFF00A002 ∷ []) ∷ (0 ∷ 1 ∷ 0 ∷ []) ∷ (0 ∷ 1 ∷ 0 ∷ 0xFF018003 ∷ []) ∷ (0 ∷ 1 ∷ 2 ∷ []) ∷ (0 ∷ 1 ∷ 0 ∷ 0xFF01A003 ∷ []) ∷
+    (0 ∷ 1 ∷ 2 ∷ []) ∷ (0 ∷ 1 ∷ 2 ∷ 0xFF01A104 ∷ []) ∷ (9 ∷ 1 ∷ 2 ∷ []) ∷ (0 ∷ 1 ∷ 2 ∷ []) ∷ (0 ∷ 0 ∷ 2 ∷ 0xFF00A801 ∷ []) ∷ (0 ∷ 0 ∷ 2 ∷ []) ∷
+    (0 ∷ 0 ∷ 2 ∷ 0xFF01A904 ∷ []) ∷ (0 ∷ 0 ∷ 2 ∷ []) ∷ (0 ∷ 1 ∷ 2 ∷ 0xFF018104 ∷ []) ∷ []
 
 abbrev pub given : List (List (List ℕ))
-given = interleaved ∷ latePage ∷ shortRun ∷ modesEntered ∷ []
+given = interleaved ∷ latePage ∷ shortRun ∷ modesEntered ∷ editions ∷ []
 
 abbrev pub said : List (List (List ℕ))
-said = interleavedSaid ∷ latePageSaid ∷ shortRunSaid ∷ modesEnteredSaid ∷ []
+said = interleavedSaid ∷ latePageSaid ∷ shortRunSaid ∷ modesEnteredSaid ∷ editionsSaid ∷ []

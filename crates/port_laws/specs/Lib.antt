@@ -1,5 +1,6 @@
--- The port as a whole: every call, a side's share of a history, when each number is given, what a refusal leaves, bit 5, what is well-formed.
+-- The port as a whole: every call, a side's share of a history, its edition, when each number is given, what a refusal leaves, bit 5, what is well-formed.
 pub mod Cases
+pub mod Editions
 pub mod Effects
 pub mod Given
 pub mod Leaving

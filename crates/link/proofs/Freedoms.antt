@@ -2,8 +2,9 @@
 use mathlib.Core.Path.{_≡_, refl}
 use Prim.Native.Nat.{ℕ}
 use mathlib.Core.List.{List, [], _∷_}
-use Rattle.messages.specs.Layout.{bytesOfObject, objectsOf, bytesOf, headOf, headerOf, messageBytes}
-use Rattle.messages.specs.Reading.{readRefusal, messageIn, outcome, readOutcome}
+use Rattle.messages.specs.Editions.{editionOf, lower}
+use Rattle.messages.specs.Layout.{bytesOfObject, objectsOf, bytesOf, editionSaid, headOf, headerOf, messageBytes}
+use Rattle.messages.specs.Reading.{readRefusal, messageIn, editionIn, outcome, readOutcome}
 use Rattle.messages.specs.Table.{rowOf, countsOf, fits, shape}
 use Rattle.messages.specs.Writing.{wellShaped, writeRefusal, written}
 use Rattle.pages.specs.Lists.{isIn, soundList}
@@ -28,7 +29,7 @@ use Rattle.link.specs.Link.{wayAfter, called, handedOver, isFair, brough
 use Rattle.link.specs.Cases.{after}
 use Rattle.link.specs.Freedoms.{holdsWhole, heldRunOf, withMarks, modeStory, modesRan, neededAlong, neededIn, neededAfter, otherDock, neededOther, newAlong, newAnswersIn, losses, confirmations, lateAnswers, policies, replacements, endings, modeRuns, needs, runs}
 use Rattle.link.specs.Seeing.{computed, dockWith, start, numbersOf, held, seen, story, ran, refusals, refusing, sameLists, differingFrom, differing}
-use Rattle.link.specs.Needed.{listAnswers, sameMessage, isListing, isTooMany, isAnswer, isLate, withAnswer, withMessage, beginsAnew, receivedBy, received, isNew, newIn}
+use Rattle.link.specs.Needed.{listAnswers, sameMessage, isListing, isTooMany, isAnswer, isLate, withAnswer, withTaken, withMessage, beginsAnew, receivedBy, received, isNew, newIn}
 use Rattle.laptop.specs.Marks.{placeOf, named, isEntered, markedBy, marksAfter}
 
 -- what is computed once is the same
@@ -47,8 +48,8 @@ pub runs-hold : differing runs ≡ []
 unfolding
     losses confirmations lateAnswers policies replacements endings modeRuns needs runs dockWith start numbersOf held seen story ran refusals
     refusing sameLists differingFrom holdsWhole heldRunOf withMarks modeStory modesRan neededAlong neededIn neededAfter otherDock neededOther newAlong newAnswersIn isNew newIn after listAnswers sameMessage
-    isListing isTooMany isAnswer isLate withAnswer withMessage beginsAnew receivedBy received placeOf named isEntered markedBy marksAfter hasMode
-    enterRefusal decideEnter exitRefusal decideExit declinedAs hearMode bytesOfObject objectsOf bytesOf headOf headerOf messageBytes readRefusal messageIn
+    isListing isTooMany isAnswer isLate withAnswer withTaken withMessage beginsAnew receivedBy received placeOf named isEntered markedBy marksAfter hasMode
+    enterRefusal decideEnter exitRefusal decideExit declinedAs hearMode editionOf lower bytesOfObject objectsOf bytesOf editionSaid headOf headerOf messageBytes readRefusal messageIn editionIn
     outcome readOutcome rowOf countsOf fits shape wellShaped writeRefusal written isIn soundList paired halves values page isLast readOff sameList isRepeat
     isFull isEnding allNew adds endingVerdict verdict goodIdentity loaded stepOf bufferOf asking sending decideRequest decideMessage givePage giveIdentity
     giveModes giveOther bare decidePolicy decidePolicyAnswer moved decideSent decideFailed hearIdentity unlessLast takeAs takePage noneGathered hearSvids storeModes hearModes

@@ -1,11 +1,14 @@
--- Document 01's cases 1 to 12, run on the definitions of both ends, as one list; and Case L.
+-- Document 01's cases 1 to 12, run on the definitions of both ends, as one list; and Case L. Their headers are at 2.0: so are the requests to the dock and the
+-- answers to the laptop.
 use Prim.Native.Nat.{ℕ, zero, suc, _+_}
 use mathlib.Core.List.{List, [], _∷_, _++_}
 use lib.ListN.{take, replicate}
+use Rattle.messages.specs.Editions.{ours, editionNumber}
 use Rattle.messages.specs.Layout.{ack, nak, messageBytes, bytesOf, objectsOf}
 use Rattle.messages.specs.Reading.{Outcome, accepted, refused, readOutcome}
 use Rattle.messages.specs.Requests.{svidsCommand, modesCommand}
 use Rattle.messages.specs.Table.{pdSid}
+use Rattle.messages.specs.declared.edition.Edition.the-variants.{TwoZero}
 use Rattle.dock.specs.Data.{loaded}
 use Rattle.dock.specs.Dock.{Decision, stepOf, bufferOf, reply}
 use Rattle.dock.specs.declared.Dock.{Dock}
@@ -35,11 +38,11 @@ buffer = replicate 28 0
 
 -- a dock with these SVIDs
 unfoldable pub dockOf : ℕ → Dock
-dockOf n = loaded (1 ∷ 2 ∷ 3 ∷ []) (upFrom 1 n)
+dockOf n = loaded ours (1 ∷ 2 ∷ 3 ∷ []) (upFrom 1 n)
 
--- it is asked for SVIDs, policy gives, and "sent" is heard
+-- it is asked for SVIDs at 2.0, policy gives, and "sent" is heard
 unfoldable pub asked : Dock → Dock
-asked d = stepOf d (dockHears d (messageBytes (requestMessage (discover pdSid svidsCommand)))) 28 .dock
+asked d = stepOf d (dockHears ours d (messageBytes TwoZero (requestMessage (discover pdSid svidsCommand)))) 28 .dock
 
 unfoldable pub offer : Dock → Decision
 offer d = dockAnswers (asked d) Give (discover pdSid svidsCommand) []
@@ -55,10 +58,10 @@ unfoldable pub answers : ℕ → Dock → List (List ℕ)
 answers zero d = []
 answers (suc k) d = shown d ∷ answers k (confirmed (stepOf (asked d) (offer d) 28 .dock))
 
--- what a message says: SVID, command, type, position and objects, or the refusal number
+-- what a message says: its edition's number, SVID, command, type, position and objects, or the refusal number
 unfoldable pub told : Outcome → List ℕ
 told (refused number) = number ∷ []
-told (accepted m) = m .head .svid ∷ m .head .command ∷ m .head .kind ∷ m .head .position ∷ m .objects
+told (accepted e m) = editionNumber e ∷ m .head .svid ∷ m .head .command ∷ m .head .kind ∷ m .head .position ∷ m .objects
 
 -- a laptop with what it is lent, and the refusal number of its last call
 pub record Standing : Type 0 where
@@ -86,16 +89,16 @@ heldAt s = heldBytes (heldIn (holding (s .laptop) (s .memory)))
 
 -- answers to the laptop's requests
 abbrev pub identityAck : Call
-identityAck = message (messageBytes (reply identityRequest ack (1 ∷ 2 ∷ 3 ∷ [])))
+identityAck = message (messageBytes TwoZero (reply identityRequest ack (1 ∷ 2 ∷ 3 ∷ [])))
 
 abbrev pub page : List ℕ → Call
-page objects = message (messageBytes (reply (discover pdSid svidsCommand) ack objects))
+page objects = message (messageBytes TwoZero (reply (discover pdSid svidsCommand) ack objects))
 
 abbrev pub listNak : Call
-listNak = message (messageBytes (reply (discover pdSid svidsCommand) nak []))
+listNak = message (messageBytes TwoZero (reply (discover pdSid svidsCommand) nak []))
 
 abbrev pub modesAck : ℕ → List ℕ → Call
-modesAck svid objects = message (messageBytes (reply (discover svid modesCommand) ack objects))
+modesAck svid objects = message (messageBytes TwoZero (reply (discover svid modesCommand) ack objects))
 
 -- the old catalogue: the identity 1, 2, 3, the SVID 0xFF01 with two modes, and the SVID 1 with one
 abbrev pub gathersOld : List Call
@@ -124,7 +127,7 @@ abbrev pub oneMode : ℕ → List ℕ
 oneMode svid = svid ∷ []
 
 abbrev pub joined : ℕ → System
-joined n = record { laptop = freshLaptop; memory = emptyMemory; way = clear; fate = gone; dock = dockOf n; lost = 0 }
+joined n = record { laptop = freshLaptop; memory = emptyMemory; way = clear; fate = gone; dock = dockOf n; highest = ours; lost = 0 }
 
 unfoldable pub counts : System → List ℕ
 counts s = s .laptop .pages ∷ s .lost ∷ s .laptop .gathered .count ∷ []
@@ -155,7 +158,7 @@ cases =
     (0xFF00A042 ∷ 0x00310032 ∷ 0x00330034 ∷ 0x00350036 ∷ 0x00370038 ∷ 0x0039003A ∷ 0x003B003C ∷ []) ∷
     (0xFF00A042 ∷ 0x003D003E ∷ 0x003F0040 ∷ 0x00410042 ∷ 0x00430044 ∷ 0x00450046 ∷ 0x00470048 ∷ []) ∷
     (0xFF00A042 ∷ 0x00000000 ∷ []) ∷ (0xFF00A042 ∷ 0x00000000 ∷ []) ∷ []) ∷
-    case (told (readOutcome (bytesOf (0xFF01A104 ∷ []))) ∷ []) ((0xFF01 ∷ 4 ∷ 0 ∷ 1 ∷ []) ∷ []) ∷
+    case (told (readOutcome (bytesOf (0xFF01A104 ∷ []))) ∷ []) ((20 ∷ 0xFF01 ∷ 4 ∷ 0 ∷ 1 ∷ []) ∷ []) ∷
     case ((after (next ∷ identityAck ∷ next ∷ page (0x00010000 ∷ 0x00020000 ∷ []) ∷ []) fresh .refusal ∷ []) ∷ []) ((8 ∷ []) ∷ []) ∷
     case (counts (run oneMode (exchange sent ++ exchange failed ++ exchange sent ++ exchange sent) (joined 13)) ∷ []) ((3 ∷ 1 ∷ 13 ∷ []) ∷ []) ∷
     case ((nakAfterPage .refusal ∷ []) ∷ heldAt (after gathersOld fresh) ∷ heldAt nakAfterPage ∷ []) ((8 ∷ []) ∷ oldBytes ∷ oldBytes ∷ []) ∷ []
@@ -181,7 +184,7 @@ caseL =
     case
     (lines
     (next ∷ identityAck ∷ next ∷ message (bytesOf (0xFF00A042 ∷ 0xFF010000 ∷ [])) ∷ next ∷ message (bytesOf (0xFF01A043 ∷ 0x00000405 ∷ [])) ∷ []) fresh)
-    ((0 ∷ []) ∷ (0xFF00A001 ∷ []) ∷ (0 ∷ []) ∷ [] ∷
+    ((0 ∷ []) ∷ (0xFF00A801 ∷ []) ∷ (0 ∷ []) ∷ [] ∷
     (0 ∷ []) ∷ [] ∷ (0 ∷ []) ∷ [] ∷
     (0 ∷ []) ∷ (0xFF00A002 ∷ []) ∷ (0 ∷ []) ∷ [] ∷
     (0 ∷ []) ∷ [] ∷ (1 ∷ []) ∷ [] ∷

@@ -7,8 +7,10 @@ use mathlib.Core.Bool.{true, false}
 use mathlib.Core.List.{List, [], _∷_}
 use lib.ListN.{length, take}
 use Rattle.laws.specs.Bounded.{Below}
+use Rattle.messages.specs.Editions.{ours}
 use Rattle.messages.specs.Layout.{Message, messageBytes}
 use Rattle.messages.specs.Reading.{accepted, readOutcome}
+use Rattle.messages.specs.declared.edition.Edition.{Edition}
 use Rattle.pages.specs.Pages.{perPage}
 use Rattle.dock.specs.Data.{listed}
 use Rattle.dock.specs.Dock.{stepOf}
@@ -42,7 +44,7 @@ pub record Meets (modesOf : ℕ → List ℕ) (d : Dock) : Type 0 where
 pub record Begins (s : System) : Type 0 where
   pub formed : WellFormed (s .laptop) (s .memory)
   pub identity-awaited : s .laptop .wait ≡ Answer identityRequest
-  pub identity-out : s .way ≡ request (messageBytes (requestMessage identityRequest))
+  pub identity-out : s .way ≡ request (messageBytes ours (requestMessage identityRequest))
   pub nothing-else : s .fate ≡ gone
   pub at-rest : s .dock .standing ≡ Ready
 
@@ -53,9 +55,9 @@ pub record AtRest (s : System) : Type 0 where
   pub nothing-comes : s .fate ≡ gone
   pub dock-ready : s .dock .standing ≡ Ready
 
--- a laptop and a dock with nothing on its way between them
-abbrev pub apart : Kept → Dock → System
-apart k d = record { laptop = k .laptop; memory = k .memory; way = clear; fate = gone; dock = d; lost = 0 }
+-- a laptop and a dock of a highest edition with nothing on its way between them
+abbrev pub apart : Kept → Edition → Dock → System
+apart k highest d = record { laptop = k .laptop; memory = k .memory; way = clear; fate = gone; dock = d; highest = highest; lost = 0 }
 
 -- the dock's whole catalogue, in order
 abbrev pub entriesOf : (ℕ → List ℕ) → List ℕ → List Entry
@@ -123,7 +125,7 @@ refusalOf s (some bytes) = laptopDoes (message bytes) (s .laptop) (s .memory) []
 pub data Ending (s : System) : Event → Type 0 where
   by-drop : (out : List ℕ) → Ending s (calls drop out)
   by-start-over : (out : List ℕ) → Ending s (calls startOver out)
-  by-late-page : (bytes : List ℕ) (m : Message) → onWay (s .fate) ≡ some bytes → readOutcome bytes ≡ accepted m → isLatePage (s .laptop) (m .head) ≡ true →
+  by-late-page : (bytes : List ℕ) (e : Edition) (m : Message) → onWay (s .fate) ≡ some bytes → readOutcome bytes ≡ accepted e m → isLatePage (s .laptop) (m .head) ≡ true →
       Ending s arrive
   by-fourteen : refusalOf s (onWay (s .fate)) ≡ 14 → Ending s arrive
 
@@ -147,4 +149,4 @@ NeverBad e s =
 -- a request that reaches the dock is never refused
 abbrev pub RequestTaken : System → Type 0
 RequestTaken s =
-    (bytes : List ℕ) (room : ℕ) → s .way ≡ request bytes → stepOf (s .dock) (dockHears (s .dock) bytes) room .refusal ≡ 0
+    (bytes : List ℕ) (room : ℕ) → s .way ≡ request bytes → stepOf (s .dock) (dockHears (s .highest) (s .dock) bytes) room .refusal ≡ 0

@@ -4,6 +4,7 @@ use Prim.Native.Nat.{ℕ, _+_}
 use mathlib.Core.Bool.{cond}
 use mathlib.Core.List.{List, [], _∷_, _++_}
 use lib.ListN.{take, replicate}
+use Rattle.messages.specs.Editions.{ours}
 use Rattle.messages.specs.Layout.{Message, messageBytes}
 use Rattle.taking.specs.Taking.{sameList}
 use Rattle.dock.specs.Data.{loaded}
@@ -51,7 +52,7 @@ losses =
     -- a call that is refused, and a wrong timer, lose no request
     case (ran 13 (calls next buffer ∷ calls next buffer ∷ calls drop [] ∷ entryTimer ∷ reach buffer ∷ []) []) (while oldBytes (view none 0 0 0 asking 1 ∷ [])) ∷
     -- nothing comes to the laptop but over the link
-    case (ran 13 (calls next buffer ∷ calls (message (messageBytes (identityAnswer (dockWith 13)))) [] ∷ []) [])
+    case (ran 13 (calls next buffer ∷ calls (message (messageBytes ours (identityAnswer (dockWith 13)))) [] ∷ []) [])
     (while oldBytes (view none 0 0 1 ready 1 ∷ [])) ∷
     -- output buffers: too short for the request, just long enough; too short for the answer, and just long enough
     case
@@ -225,11 +226,11 @@ abbrev pub alike : ℕ → List ℕ
 alike svid = upFrom 1 6
 
 unfoldable pub otherDock : Dock
-otherDock = loaded (upFrom 1 6) (0xFFFF ∷ 0xFF00 ∷ 1 ∷ [])
+otherDock = loaded ours (upFrom 1 6) (0xFFFF ∷ 0xFF00 ∷ 1 ∷ [])
 
 abbrev pub otherStart : System
 otherStart =
-    record { laptop = start 0 .laptop; memory = start 0 .memory; way = clear; fate = gone; dock = otherDock; lost = 0 }
+    record { laptop = start 0 .laptop; memory = start 0 .memory; way = clear; fate = gone; dock = otherDock; highest = ours; lost = 0 }
 
 unfoldable pub replacements : List Case
 replacements =
@@ -263,7 +264,7 @@ replacements =
 -- HOW A GATHERING ENDS. A laptop that has counted so many pages
 abbrev pub counting : ℕ → System → System
 counting pages s =
-    record { laptop = withPages pages (s .laptop); memory = s .memory; way = s .way; fate = s .fate; dock = s .dock; lost = s .lost }
+    record { laptop = withPages pages (s .laptop); memory = s .memory; way = s .way; fate = s .fate; dock = s .dock; highest = s .highest; lost = s .lost }
 
 unfoldable pub endings : List Case
 endings =

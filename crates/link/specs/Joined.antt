@@ -2,6 +2,7 @@
 use Prim.Native.Nat.{ℕ}
 use mathlib.Core.Bool.{Bool}
 use mathlib.Core.List.{List}
+use Rattle.messages.specs.declared.edition.Edition.{Edition}
 use Rattle.dock.specs.declared.Dock.{Dock}
 use Rattle.dock.specs.declared.Policy.{Policy}
 use Rattle.laptop.specs.State.{Memory}
@@ -25,13 +26,14 @@ pub data Fate : Type 0 where
   -- it has arrived and the dock has heard nothing yet; was it a page before the last, and counted
   came : Bool → Fate
 
--- the laptop with what it is lent, the link, the dock, and how many confirmations were lost in this gathering on pages before the last
+-- the laptop with what it is lent, the link, the dock and its highest edition, and how many confirmations were lost in this gathering on pages before the last
 pub record System : Type 0 where
   pub laptop : Laptop
   pub memory : Memory
   pub way : Way
   pub fate : Fate
   pub dock : Dock
+  pub highest : Edition
   pub lost : ℕ
 
 -- what may happen. The lists are the output buffers that the calls are lent

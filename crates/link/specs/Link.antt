@@ -46,6 +46,7 @@ afterCall d s =
       way = wayAfter d (s .way);
       fate = s .fate;
       dock = s .dock;
+      highest = s .highest;
       lost = s .lost;
     }
 
@@ -75,15 +76,16 @@ reachedBy out decision s =
       way = clear;
       fate = handedOver (s .dock) decision out gone;
       dock = stepOf (s .dock) decision (length out) .dock;
+      highest = s .highest;
       lost = lostWith (s .fate) (s .lost);
     }
 
 abbrev pub reaches : List ℕ → Way → Fate → System → System
 reaches out clear fate s = s
-reaches out (request bytes) gone s = reachedBy out (dockHears (s .dock) bytes) s
-reaches out (request bytes) (coming a) s = reachedBy out (dockHears (s .dock) bytes) s
+reaches out (request bytes) gone s = reachedBy out (dockHears (s .highest) (s .dock) bytes) s
+reaches out (request bytes) (coming a) s = reachedBy out (dockHears (s .highest) (s .dock) bytes) s
 reaches out (request bytes) (confirmed a) s = s
-reaches out (request bytes) (came b) s = reachedBy out (dockHears (s .dock) bytes) s
+reaches out (request bytes) (came b) s = reachedBy out (dockHears (s .highest) (s .dock) bytes) s
 
 -- policy gives or says BUSY, and says NAK only to SVIDs with an empty list
 unfoldable pub isFair : Policy → Request → List ℕ → Bool
@@ -105,6 +107,7 @@ answeredBy out offer s =
       way = s .way;
       fate = handedOver (s .dock) offer out (s .fate);
       dock = stepOf (s .dock) offer (length out) .dock;
+      highest = s .highest;
       lost = s .lost;
     }
 
@@ -117,8 +120,8 @@ answers modesOf policy out (Sending isPage) s = s
 
 -- the answer arrives: is it counted, and does its page not end the list. Until it is confirmed, or a later request reaches the dock, the dock's
 -- page is the answer's
-unfoldable pub isUnsure : Laptop → Laptop → Dock → Bool
-isUnsure before after d = ltb (before .pages) (after .pages) && not (isLast (listed d) (d .page))
+unfoldable pub isUnsure : Laptop → Laptop → List ℕ → ℕ → Bool
+isUnsure before after list page = ltb (before .pages) (after .pages) && not (isLast list page)
 
 -- a gathering opens with its Identity ACK
 unfoldable pub opens : Laptop → Laptop → Bool
@@ -126,7 +129,7 @@ opens before after = awaitsIdentity (before .wait) && isOpen (after .candidate)
 
 abbrev pub withFate : Fate → ℕ → System → System
 withFate fate lost s =
-    record { laptop = s .laptop; memory = s .memory; way = s .way; fate = fate; dock = s .dock; lost = lost }
+    record { laptop = s .laptop; memory = s .memory; way = s .way; fate = fate; dock = s .dock; highest = s .highest; lost = lost }
 
 abbrev pub arrivedWith : List ℕ → System → Effect
 arrivedWith bytes s = laptopDoes (message bytes) (s .laptop) (s .memory) []
@@ -147,15 +150,15 @@ arrives gone s = s
 arrives (came b) s = s
 arrives (coming bytes) s =
     afterCall (arrivedWith bytes s)
-    (withFate (fateOnArrival (s .dock .standing) (isUnsure (s .laptop) (arrivedWith bytes s .step .laptop) (s .dock)))
+    (withFate (fateOnArrival (s .dock .standing) (isUnsure (s .laptop) (arrivedWith bytes s .step .laptop) (listed (s .dock)) (s .dock .page)))
     (cond (opens (s .laptop) (arrivedWith bytes s .step .laptop)) 0
-    (lostOnArrival (s .dock .standing) (isUnsure (s .laptop) (arrivedWith bytes s .step .laptop) (s .dock)) (s .lost))) s)
+    (lostOnArrival (s .dock .standing) (isUnsure (s .laptop) (arrivedWith bytes s .step .laptop) (listed (s .dock)) (s .dock .page)) (s .lost))) s)
 arrives (confirmed bytes) s =
     afterCall (arrivedWith bytes s) (withFate gone (cond (opens (s .laptop) (arrivedWith bytes s .step .laptop)) 0 (s .lost)) s)
 
 abbrev pub withDock : Dock → System → System
 withDock d s =
-    record { laptop = s .laptop; memory = s .memory; way = s .way; fate = s .fate; dock = d; lost = s .lost }
+    record { laptop = s .laptop; memory = s .memory; way = s .way; fate = s .fate; dock = d; highest = s .highest; lost = s .lost }
 
 -- the dock hears "sent" at most once, of an answer that has arrived or then has to arrive
 abbrev pub hearsSent : Standing → Fate → System → System
@@ -184,7 +187,7 @@ hearsFailed (Sending isPage) s =
 
 abbrev pub losesRequest : System → System
 losesRequest s =
-    record { laptop = s .laptop; memory = s .memory; way = clear; fate = s .fate; dock = s .dock; lost = s .lost }
+    record { laptop = s .laptop; memory = s .memory; way = clear; fate = s .fate; dock = s .dock; highest = s .highest; lost = s .lost }
 
 -- an answer of which the dock has heard "sent" is not lost
 abbrev pub losesAnswer : Fate → System → System

@@ -59,7 +59,7 @@ modesAnswers modesOf (svid ∷ list) = modesAnswer modesOf svid ∷ modesAnswers
 abbrev pub answersNeeded : (ℕ → List ℕ) → Dock → List Message
 answersNeeded modesOf d = identityAnswer d ∷ (listAnswers (listed d) ++ modesAnswers modesOf (listed d))
 
--- two messages are the same, in every field and object
+-- two messages are the same, in every field and object; nothing that is compared looks at their editions
 unfoldable pub sameMessage : Message → Message → Bool
 sameMessage a b =
     eqb (a .head .command) (b .head .command) &&
@@ -112,9 +112,12 @@ isLate w list m got = not (isAwaiting w) && (isPageAnswer m && isListing list go
 unfoldable pub withAnswer : List ℕ → Message → List Message → List Message
 withAnswer list m got = cond (isTooMany list (m ∷ got)) [] (m ∷ got)
 
+unfoldable pub withTaken : Wait → List ℕ → Message → List Message → List Message
+withTaken w list m got = cond (isAnswer w m) (withAnswer list m got) (cond (isLate w list m got) [] got)
+
 unfoldable pub withMessage : Wait → List ℕ → Outcome → List Message → List Message
 withMessage w list (refused number) got = got
-withMessage w list (accepted m) got = cond (isAnswer w m) (withAnswer list m got) (cond (isLate w list m got) [] got)
+withMessage w list (accepted e m) got = withTaken w list m got
 
 abbrev pub withArrival : Wait → List ℕ → Option (List ℕ) → List Message → List Message
 withArrival w list none got = got
@@ -173,7 +176,7 @@ isNew w list m got = isAnswer w m && (not (isPageAnswer m && hasCome m got) && n
 
 unfoldable pub newIn : Wait → List ℕ → Outcome → List Message → Bool
 newIn w list (refused number) got = false
-newIn w list (accepted m) got = isNew w list m got
+newIn w list (accepted e m) got = isNew w list m got
 
 abbrev pub newOf : Wait → List ℕ → Option (List ℕ) → List Message → Bool
 newOf w list none got = false

@@ -44,7 +44,7 @@ module _ (modesOf : ℕ → List ℕ) (s : System) where
     pub call-made : (c : Call) (out : List ℕ) → isMessage c ≡ false → Does c out (step modesOf (calls c out) s)
     -- a request reaches the dock, whatever it asks or sends, unless an answer is confirmed and has still to arrive
     pub request-reaches : (bytes out : List ℕ) → s .way ≡ request bytes → isConfirmed (s .fate) ≡ false →
-        Follows (dockHears (s .dock) bytes) out (step modesOf (reach out) s)
+        Follows (dockHears (s .highest) (s .dock) bytes) out (step modesOf (reach out) s)
     -- "policy gives", for every list and every SVID, "or says BUSY, and says NAK only to SVIDs with an empty list"
     pub policy-gives : (r : Request) (out : List ℕ) → s .dock .standing ≡ Asking r →
         Follows (dockAnswers (s .dock) Give r (cond (eqb (r .command) modesCommand) (modesOf (r .svid)) [])) out (step modesOf (answer Give out) s)

@@ -3,6 +3,7 @@
 use Prim.Native.Nat.{ℕ, _+_, _*_, _/_, _%_}
 use mathlib.Core.Bool.{Bool, true, false, cond, _&&_}
 use mathlib.Core.List.{List, [], _∷_, _++_}
+use Rattle.messages.specs.Editions.{ours}
 use Rattle.pages.specs.Pages.{perPage}
 use Rattle.taking.specs.Taking.{sameList}
 use Rattle.dock.specs.Data.{loaded, withPage}
@@ -31,10 +32,10 @@ modesOf svid = upFrom (svid * 0x01000100 + 1) (svid % 6 + 1)
 
 -- a dock with the SVIDs 1, 2, 3 .. n, at rest at its last page
 unfoldable pub dockWith : ℕ → Dock
-dockWith n = withPage (n / perPage) (loaded (0x6C0004B4 ∷ 0 ∷ 0x12345678 ∷ 0xFFFFFFFF ∷ []) (upFrom 1 n))
+dockWith n = withPage (n / perPage) (loaded ours (0x6C0004B4 ∷ 0 ∷ 0x12345678 ∷ 0xFFFFFFFF ∷ []) (upFrom 1 n))
 
 abbrev pub beside : Standing → ℕ → System
-beside laptop n = record { laptop = laptop .laptop; memory = laptop .memory; way = clear; fate = gone; dock = dockWith n; lost = 0 }
+beside laptop n = record { laptop = laptop .laptop; memory = laptop .memory; way = clear; fate = gone; dock = dockWith n; highest = ours; lost = 0 }
 
 -- beside it a laptop that holds the old catalogue, with another identity, other SVIDs and other modes
 unfoldable pub start : ℕ → System

@@ -56,8 +56,8 @@ system-own Cable p far j = refl
 system-other : (s t : Side) (l : Laptop) (p : Port) (far : FarEnd) (j : Joint) → sameSide s t ≡ false → p ≡ putBack s l (j .port) →
     systemSeen t (joined s p far j) ≡ systemSeen t j
 system-other Partner Partner l p far j e f = absurd (false≢true (sym e))
-system-other Partner Cable l p far j e f = ap (λ (x : Laptop). record { laptop = x; memory = j .cable .memory; way = j .cable .way; fate = j .cable .fate; dock = j .cable .dock; lost = j .cable .lost }) (ap (seen Cable) f ∙ other-unchanged Partner Cable l (j .port) e)
-system-other Cable Partner l p far j e f = ap (λ (x : Laptop). record { laptop = x; memory = j .partner .memory; way = j .partner .way; fate = j .partner .fate; dock = j .partner .dock; lost = j .partner .lost }) (ap (seen Partner) f ∙ other-unchanged Cable Partner l (j .port) e)
+system-other Partner Cable l p far j e f = ap (λ (x : Laptop). record { laptop = x; memory = j .cable .memory; way = j .cable .way; fate = j .cable .fate; dock = j .cable .dock; highest = j .cable .highest; lost = j .cable .lost }) (ap (seen Cable) f ∙ other-unchanged Partner Cable l (j .port) e)
+system-other Cable Partner l p far j e f = ap (λ (x : Laptop). record { laptop = x; memory = j .partner .memory; way = j .partner .way; fate = j .partner .fate; dock = j .partner .dock; highest = j .partner .highest; lost = j .partner .lost }) (ap (seen Partner) f ∙ other-unchanged Cable Partner l (j .port) e)
 system-other Cable Cable l p far j e f = absurd (false≢true (sym e))
 
 -- on a link, where a side awaits nothing it awaits nothing afterwards
@@ -82,7 +82,7 @@ module _ (modesOf : ℕ → List ℕ) where
 
   -- an event on a side's link is 01's to that side
   link-own : (side : Side) (e : Link·Event) (j : Joint) → isCall e ≡ false → systemSeen side (onLink modesOf side e j) ≡ Link·step modesOf e (systemSeen side j)
-  link-own side e j f = system-own side _ _ j ∙ ap (λ (x : Laptop). record { laptop = x; memory = after .memory; way = after .way; fate = after .fate; dock = after .dock; lost = after .lost }) (go (isOthers side (j .port .wait)) refl)
+  link-own side e j f = system-own side _ _ j ∙ ap (λ (x : Laptop). record { laptop = x; memory = after .memory; way = after .way; fate = after .fate; dock = after .dock; highest = after .highest; lost = after .lost }) (go (isOthers side (j .port .wait)) refl)
     where
       after : System
       after = Link·step modesOf e (systemSeen side j)

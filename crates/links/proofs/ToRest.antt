@@ -59,7 +59,7 @@ error-idle modesOf s idle free =
     ap (λ (w : Laptop·Wait). withWay (cond (isAwaiting w) (s .way) clear)) idle ∙ ap withWay (sym free)
   where
     withWay : Way → System
-    withWay way = record { laptop = s .laptop; memory = s .memory; way = way; fate = s .fate; dock = s .dock; lost = s .lost }
+    withWay way = record { laptop = s .laptop; memory = s .memory; way = way; fate = s .fate; dock = s .dock; highest = s .highest; lost = s .lost }
 
 -- a protocol error leaves neither side waiting
 error-frees : (modesOf : Side → ℕ → List ℕ) (j : Joint) (named : Side) (r : Request) → j .port .wait ≡ Answer named r →

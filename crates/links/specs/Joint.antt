@@ -2,6 +2,7 @@
 use Prim.Native.Nat.{ℕ}
 use mathlib.Core.Bool.{Bool, true, false, cond, not, _||_}
 use mathlib.Core.List.{List, [], _∷_}
+use Rattle.messages.specs.declared.edition.Edition.{Edition}
 use Rattle.dock.specs.declared.Dock.{Dock}
 use Rattle.dock.specs.declared.Policy.{Policy}
 use Rattle.laptop.specs.State.{Memory}
@@ -25,12 +26,13 @@ use Rattle.link.specs.Joined.{failed as Link·failed}
 use Rattle.link.specs.Link.{afterCall}
 use Rattle.link.specs.Link.{step as Link·step}
 
--- what a side has to itself: what is lent to it, its link, its dock, and how many confirmations were lost in its gathering on pages before the last
+-- what a side has to itself: what is lent to it, its link, its dock with its highest edition, and how many confirmations were lost in its gathering on pages before the last
 pub record FarEnd : Type 0 where
   pub memory : Memory
   pub way : Way
   pub fate : Fate
   pub dock : Dock
+  pub highest : Edition
   pub lost : ℕ
 
 pub record Joint : Type 0 where
@@ -45,13 +47,13 @@ farEnd Cable j = j .cable
 -- the laptop, link and dock of 01 that a side sees
 abbrev pub systemWith : Side → Port → FarEnd → System
 systemWith side p far =
-    record { laptop = seen side p; memory = far .memory; way = far .way; fate = far .fate; dock = far .dock; lost = far .lost }
+    record { laptop = seen side p; memory = far .memory; way = far .way; fate = far .fate; dock = far .dock; highest = far .highest; lost = far .lost }
 
 abbrev pub systemSeen : Side → Joint → System
 systemSeen side j = systemWith side (j .port) (farEnd side j)
 
 abbrev pub farEndIn : System → FarEnd
-farEndIn s = record { memory = s .memory; way = s .way; fate = s .fate; dock = s .dock; lost = s .lost }
+farEndIn s = record { memory = s .memory; way = s .way; fate = s .fate; dock = s .dock; highest = s .highest; lost = s .lost }
 
 -- one side with its link and dock become others; the other side keeps its own
 abbrev pub joined : Side → Port → FarEnd → Joint → Joint

@@ -53,11 +53,11 @@ module _ (modesOf : ℕ → List ℕ) (start : System) (meets : Meets modesOf (s
   awaited : (q : Request) (asking : Laptop) → asksNext (s .laptop) (s .memory .svids) (s .laptop .candidate) ≡ sends (requestMessage q) asking →
       asking .wait ≡ Answer q → wellShaped (requestMessage q) ≡ true → after .laptop .wait ≡ Answer q
   awaited q asking e w good =
-      let at : s ≡ standing modesOf d out room (s .laptop) (s .memory) (s .way) (s .fate) (r .page-at) (r .standing-at) (s .lost) =
-      ap (λ (x : Dock). record { laptop = s .laptop; memory = s .memory; way = s .way; fate = s .fate; dock = x; lost = s .lost }) (ap (λ (x : System). x .dock) (r .is)) in
+      let at : s ≡ standing modesOf d (s .highest) out room (r .edition-at) (s .laptop) (s .memory) (s .way) (s .fate) (r .page-at) (r .standing-at) (s .lost) =
+      ap (λ (x : Dock). record { laptop = s .laptop; memory = s .memory; way = s .way; fate = s .fate; dock = x; highest = s .highest; lost = s .lost }) (ap (λ (x : System). x .dock) (r .is)) in
       ap (λ (x : System). step modesOf (calls next out) x .laptop .wait) at ∙
       ap (λ (x : System). x .laptop .wait)
-      (next-sends modesOf d out room (s .laptop) (s .memory) (s .way) (s .fate) (r .page-at) (r .standing-at) (s .lost) (r .invariant .formed .lent) idle unentered q asking e
+      (next-sends modesOf d (s .highest) out room (r .edition-at) (s .laptop) (s .memory) (s .way) (s .fate) (r .page-at) (r .standing-at) (s .lost) (r .invariant .formed .lent) idle unentered q asking e
       (ap isAwaiting w) good) ∙ w
 
   identity-next : s .laptop .candidate ≡ Absent → after .laptop .wait ≡ Answer identityRequest

@@ -8,7 +8,7 @@ use native.Mathlib.Omega.{arith}
 use lib.Dec.{ltb, eqb}
 use lib.ListN.{length}
 use borrow.Author.Tests.{ne-eqb}
-use Rattle.messages.specs.Layout.{Message, messageBytes}
+use Rattle.messages.specs.Layout.{Message, messageLength}
 use Rattle.messages.specs.Writing.{writeRefusal}
 use Rattle.dock.specs.declared.Dock.{Dock}
 use Rattle.laptop.specs.Calls.{Decision, refuses, accepts, sends, refusedBy, sentBy, stepOf, unless}
@@ -59,13 +59,13 @@ module _ (modesOf : ℕ → List ℕ) (d : Dock) (meets : Meets modesOf d) (got 
     unfolding stepOf
     sent-or-left c x after f = go (eqb (writeRefusal x (length out)) 0)
       where
-        room : ltb 0 (length (messageBytes x)) ≡ true
+        room : ltb 0 (messageLength x) ≡ true
         room = some-bytes x
 
         go : (b : Bool) →
-            Outcome ((cond b (sentBy (length (messageBytes x)) after) (refusedBy (writeRefusal x (length out)) l)) .laptop)
-            (cond (ltb 0 ((cond b (sentBy (length (messageBytes x)) after) (refusedBy (writeRefusal x (length out)) l)) .length) &&
-            awaitsIdentity ((cond b (sentBy (length (messageBytes x)) after) (refusedBy (writeRefusal x (length out)) l)) .laptop .wait)) [] got)
+            Outcome ((cond b (sentBy (messageLength x) after) (refusedBy (writeRefusal x (length out)) l)) .laptop)
+            (cond (ltb 0 ((cond b (sentBy (messageLength x) after) (refusedBy (writeRefusal x (length out)) l)) .length) &&
+            awaitsIdentity ((cond b (sentBy (messageLength x) after) (refusedBy (writeRefusal x (length out)) l)) .laptop .wait)) [] got)
             (c ≡ startOver)
         go true = rw room f
         go false = inl (refl, tells)

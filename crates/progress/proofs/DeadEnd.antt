@@ -5,8 +5,10 @@ use mathlib.Core.List.{List, []}
 use Prim.Native.Nat.{ℕ, _≤_}
 use lib.Dec.{ltb, eqb}
 use lib.ListN.{length}
+use Rattle.messages.specs.Editions.{ours}
 use Rattle.messages.specs.Layout.{Message, messageBytes}
 use Rattle.messages.specs.Reading.{Outcome, accepted, readOutcome}
+use Rattle.messages.specs.declared.edition.Edition.{Edition}
 use Rattle.dock.specs.Data.{listed}
 use Rattle.dock.specs.declared.Dock.{Dock}
 use Rattle.dock.specs.declared.Standing.{Standing}
@@ -66,49 +68,49 @@ module _ (modesOf : ℕ → List ℕ) (d : Dock) (meets : Meets modesOf d) (old 
   Heard s after = (after .laptop .wait ≡ Nothing) × (after .memory ≡ s .memory) × (isConfirmed (after .fate) ≡ false)
 
   module _ (l : Laptop) (m : Memory) (formed : WellFormed l m) (idle : l .wait ≡ Nothing) where
-    unawaited : (x : Message) → eqb (x .head .kind) 0 ≡ false →
-        (heard l m (accepted x) .step .laptop .wait ≡ Nothing) × (heard l m (accepted x) .after ≡ m)
-    unawaited x answers = go (isLatePage l (x .head)) refl
+    unawaited : (at : Edition) (x : Message) → eqb (x .head .kind) 0 ≡ false →
+        (heard l m (accepted at x) .step .laptop .wait ≡ Nothing) × (heard l m (accepted at x) .after ≡ m)
+    unawaited at x answers = go (isLatePage l (x .head)) refl
       where
         unfit : fits (l .wait) (x .head) ≡ false
         unfit = ap (λ (w : Wait). fits w (x .head)) idle
 
-        go : (b : Bool) → isLatePage l (x .head) ≡ b → (heard l m (accepted x) .step .laptop .wait ≡ Nothing) × (heard l m (accepted x) .after ≡ m)
+        go : (b : Bool) → isLatePage l (x .head) ≡ b → (heard l m (accepted at x) .step .laptop .wait ≡ Nothing) × (heard l m (accepted at x) .after ≡ m)
         go true e =
-            let same = hear-late l m (formed .lent) x answers unfit e in
+            let same = hear-late l m (formed .lent) at x answers unfit e in
             (ap (λ (r : Result). r .step .laptop .wait) same, ap (λ (r : Result). r .after) same)
         go false e =
-            let same = hear-ignored l m (formed .lent) x answers unfit e in
+            let same = hear-ignored l m (formed .lent) at x answers unfit e in
             (ap (λ (r : Result). r .step .laptop .wait) same ∙ idle, ap (λ (r : Result). r .after) same)
 
-    read-so : (a : FairAnswer) → Shaped modesOf d a → eqb (messageOf modesOf d a .head .kind) 0 ≡ false →
-        (heard l m (readOutcome (messageBytes (messageOf modesOf d a))) .step .laptop .wait ≡ Nothing) ×
-        (heard l m (readOutcome (messageBytes (messageOf modesOf d a))) .after ≡ m)
-    read-so a shaped answers =
-        subst (λ (o : Outcome). (heard l m o .step .laptop .wait ≡ Nothing) × (heard l m o .after ≡ m)) (sym (answer-read modesOf d meets a shaped))
-        (unawaited (messageOf modesOf d a) answers)
+    read-so : (at : Edition) (a : FairAnswer) → Shaped modesOf d a → eqb (messageOf modesOf d a .head .kind) 0 ≡ false →
+        (heard l m (readOutcome (messageBytes at (messageOf modesOf d a))) .step .laptop .wait ≡ Nothing) ×
+        (heard l m (readOutcome (messageBytes at (messageOf modesOf d a))) .after ≡ m)
+    read-so at a shaped answers =
+        subst (λ (o : Outcome). (heard l m o .step .laptop .wait ≡ Nothing) × (heard l m o .after ≡ m)) (sym (answer-read modesOf d meets at a shaped))
+        (unawaited at (messageOf modesOf d a) answers)
 
   not-confirmed : (t : Standing) (b : Bool) → isConfirmed (fateOnArrival t b) ≡ false
   not-confirmed Ready b = refl
   not-confirmed (Asking r) b = refl
   not-confirmed (Sending x) b = refl
 
-  arrives-unawaited : (l : Laptop) (m : Memory) (way : Way) (q : ℕ) (t : Standing) (v : Carried) (z : ℕ) → Inv modesOf d old l m way q t v z → l .wait ≡ Nothing →
-      Heard (systemOf modesOf d old l m way q t v z) (step modesOf arrive (systemOf modesOf d old l m way q t v z))
+  arrives-unawaited : (h e : Edition) (l : Laptop) (m : Memory) (way : Way) (q : ℕ) (t : Standing) (v : Carried) (z : ℕ) → Inv modesOf d old l m way q t v z → l .wait ≡ Nothing →
+      Heard (systemOf modesOf d old h e l m way q t v z) (step modesOf arrive (systemOf modesOf d old h e l m way q t v z))
   unfolding step
-  arrives-unawaited l m way q t nothing z i idle = (idle, refl, refl)
-  arrives-unawaited l m way q t (arrived b) z i idle = (idle, refl, refl)
-  arrives-unawaited l m way q t (underWay a) z i idle =
-      let f = read-so l m (i .formed) idle a (i .fate-fits .1) (no-request modesOf d meets l m q t z (underWay a) (i .formed) (i .candidate-is) a) in
+  arrives-unawaited h e l m way q t nothing z i idle = (idle, refl, refl)
+  arrives-unawaited h e l m way q t (arrived b) z i idle = (idle, refl, refl)
+  arrives-unawaited h e l m way q t (underWay a) z i idle =
+      let f = read-so l m (i .formed) idle e a (i .fate-fits .1) (no-request modesOf d meets l m q t z (underWay a) (i .formed) (i .candidate-is) a) in
       (f .0, f .1, not-confirmed t _)
-  arrives-unawaited l m way q t (sure a) z i idle =
-      let f = read-so l m (i .formed) idle a (i .fate-fits .1) (no-request modesOf d meets l m q t z (sure a) (i .formed) (i .candidate-is) a) in
+  arrives-unawaited h e l m way q t (sure a) z i idle =
+      let f = read-so l m (i .formed) idle e a (i .fate-fits .1) (no-request modesOf d meets l m q t z (sure a) (i .formed) (i .candidate-is) a) in
       (f .0, f .1, refl)
 
   heard-out : (s : System) → Reached modesOf d old s → s .laptop .wait ≡ Nothing → Heard s (step modesOf arrive s)
   heard-out s r idle =
       subst (λ (x : System). x .laptop .wait ≡ Nothing → Heard x (step modesOf arrive x)) (sym (r .is))
-      (arrives-unawaited (s .laptop) (s .memory) (s .way) (r .page-at) (r .standing-at) (r .carried) (s .lost) (r .invariant)) idle
+      (arrives-unawaited (s .highest) (r .edition-at) (s .laptop) (s .memory) (s .way) (r .page-at) (r .standing-at) (r .carried) (s .lost) (r .invariant)) idle
 
 module _ (modesOf : ℕ → List ℕ) (start : System) (meets : Meets modesOf (start .dock)) (all : HasAll modesOf (start .dock)) (out : List ℕ) (room : 28 ≤ length out) where
   abbrev d : Dock
@@ -121,14 +123,14 @@ module _ (modesOf : ℕ → List ℕ) (start : System) (meets : Meets modesOf (s
   gathers : (s : System) → Reached modesOf d old s → s .laptop .wait ≡ Nothing → s .laptop .candidate ≡ Absent → anyEntered (s .memory .entered) ≡ false →
       isConfirmed (s .fate) ≡ false → Holds (whole modesOf d) (run modesOf (times (inAll (length (listed d))) (exchange out)) s)
   gathers s r idle absent unentered free =
-      let at : s ≡ standing modesOf d out room (s .laptop) (s .memory) (s .way) (s .fate) (r .page-at) (r .standing-at) (s .lost) =
-      ap (λ (x : Dock). record { laptop = s .laptop; memory = s .memory; way = s .way; fate = s .fate; dock = x; lost = s .lost }) (ap (λ (x : System). x .dock) (r .is)) in
-      let goes = next-sends modesOf d out room (s .laptop) (s .memory) (s .way) (s .fate) (r .page-at) (r .standing-at) (s .lost) (r .invariant .formed .lent) idle unentered
+      let at : s ≡ standing modesOf d (s .highest) out room (r .edition-at) (s .laptop) (s .memory) (s .way) (s .fate) (r .page-at) (r .standing-at) (s .lost) =
+      ap (λ (x : Dock). record { laptop = s .laptop; memory = s .memory; way = s .way; fate = s .fate; dock = x; highest = s .highest; lost = s .lost }) (ap (λ (x : System). x .dock) (r .is)) in
+      let goes = next-sends modesOf d (s .highest) out room (r .edition-at) (s .laptop) (s .memory) (s .way) (s .fate) (r .page-at) (r .standing-at) (s .lost) (r .invariant .formed .lent) idle unentered
       identityRequest (identityAsked (s .laptop)) (asks-identity (s .laptop) (s .memory .svids) absent) refl identity-shaped in
-      let out-now : Reached modesOf d old (standing modesOf d out room (identityAsked (s .laptop)) (s .memory) (request (messageBytes (requestMessage identityRequest))) (s .fate) (r .page-at) (r .standing-at) (s .lost)) =
+      let out-now : Reached modesOf d old (standing modesOf d (s .highest) out room (r .edition-at) (identityAsked (s .laptop)) (s .memory) (request (messageBytes ours (requestMessage identityRequest))) (s .fate) (r .page-at) (r .standing-at) (s .lost)) =
       subst (Reached modesOf d old) (ap (step modesOf (calls next out)) at ∙ goes) (steps modesOf d meets old (calls next out) s r) in
       subst (λ (x : System). Holds (whole modesOf d) (run modesOf (times (inAll (length (listed d))) (exchange out)) x)) (sym at)
-      (ends-whole modesOf start meets all old (holding (s .laptop) (s .memory)) out room (s .laptop) (s .memory) (s .way) (s .fate) (r .page-at) (r .standing-at) (s .lost)
+      (ends-whole modesOf start meets all old (holding (s .laptop) (s .memory)) (s .highest) out room (r .edition-at) (s .laptop) (s .memory) (s .way) (s .fate) (r .page-at) (r .standing-at) (s .lost)
       (r .invariant .formed .lent) idle absent unentered free refl out-now .1)
 
   brought-to-rest : (s : System) → Reached modesOf d old s → anyEntered (s .memory .entered) ≡ false → NoDeadEnd modesOf d s out

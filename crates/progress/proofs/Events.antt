@@ -10,6 +10,7 @@ use borrow.Author.Tests.{le-ltb}
 use Rattle.messages.specs.Layout.{Message, messageBytes}
 use Rattle.messages.specs.Reading.{Outcome as Reading·Outcome}
 use Rattle.messages.specs.Reading.{accepted, readOutcome}
+use Rattle.messages.specs.declared.edition.Edition.{Edition}
 use Rattle.dock.specs.Data.{listed}
 use Rattle.dock.specs.declared.Dock.{Dock}
 use Rattle.dock.specs.declared.Standing.{Standing}
@@ -25,7 +26,7 @@ use Rattle.laptop_laws.specs.WellFormed.{awaitsIdentity, WellFormed}
 use Rattle.link.specs.Demand.{Meets, whole, heldWords, Holds, refusalOf, Lowers, Replaces, Raises, EndsBy, Ending, by-drop, by-start-over, by-late-page, by-fourteen}
 use Rattle.link.specs.Joined.{Way, System, Event, calls, loseRequest, reach, answer, loseAnswer, arrive, sent, failed}
 use Rattle.link.specs.Link.{called, isUnsure, opens, lostOnArrival, step, run}
-use Rattle.link.specs.Needed.{answersNeeded, needed, withMessage, withArrival, newIn, newOf, onWay, beginsAnew, receivedBy, received, bringsNew}
+use Rattle.link.specs.Needed.{answersNeeded, needed, withTaken, withMessage, withArrival, isNew, newIn, newOf, onWay, beginsAnew, receivedBy, received, bringsNew}
 use Rattle.unharmed.proofs.LastAnswer.{isLastHead, isLastOutcome, isLastOf, isLastAnswer}
 use Rattle.unharmed.proofs.Arriving.{gives-gave, answer-read, timely}
 use Rattle.unharmed.proofs.Arrival.{confirmed-first}
@@ -33,7 +34,7 @@ use Rattle.unharmed.proofs.AtDock.{Inv}
 use Rattle.unharmed.proofs.Awaited.{and-no}
 use Rattle.unharmed.proofs.AtLaptop.{next-is, start-over-is, enter-is, exit-is, timer-is, error-is}
 use Rattle.unharmed.proofs.Course.{Carried, nothing, underWay, sure, arrived}
-use Rattle.unharmed.proofs.Invariant.{dockAt, messageOf, fateOf, systemOf, Reached}
+use Rattle.unharmed.proofs.Invariant.{messageOf, fateOf, systemOf, Reached}
 use Rattle.unharmed.proofs.Runs.{reaches-aside, answers-aside, loses-aside, sent-aside, failed-aside, Does, does, steps}
 use Rattle.progress.proofs.AtCalls.{Outcome, decided-outcome, drop-outcome}
 use Rattle.progress.proofs.OnArrival.{Comes}
@@ -46,10 +47,10 @@ opens-none : (l after : Laptop) → after .candidate ≡ Absent → opens l afte
 unfolding opens
 opens-none l after e = rw e (and-no (awaitsIdentity (l .wait)))
 
-lost-timely : (l after : Laptop) (t : Standing) (x : Dock) (z : ℕ) → after .pages ≡ l .pages → after .candidate ≡ Absent →
-    cond (opens l after) 0 (lostOnArrival t (isUnsure l after x) z) ≡ z
+lost-timely : (l after : Laptop) (t : Standing) (list : List ℕ) (page z : ℕ) → after .pages ≡ l .pages → after .candidate ≡ Absent →
+    cond (opens l after) 0 (lostOnArrival t (isUnsure l after list page) z) ≡ z
 unfolding isUnsure
-lost-timely l after t x z e c = rw (opens-none l after c, e, le-ltb (l .pages) (l .pages) (omega arith)) (go t)
+lost-timely l after t list page z e c = rw (opens-none l after c, e, le-ltb (l .pages) (l .pages) (omega arith)) (go t)
   where
     go : (s : Standing) → lostOnArrival s false z ≡ z
     go Ready = refl
@@ -147,35 +148,36 @@ module _ (modesOf : ℕ → List ℕ) (start : System) (meets : Meets modesOf (s
         (decided-outcome modesOf d meets got (s .laptop) (s .memory) out tells protocolError refl _ (error-is (s .laptop) (s .memory) formed))
 
   -- an answer arrives
-  module _ (s : System) (got : List Message) (bytes : List ℕ) (x : Message) (read : readOutcome bytes ≡ accepted x) (way : onWay (s .fate) ≡ some bytes)
+  module _ (s : System) (got : List Message) (bytes : List ℕ) (at : Edition) (x : Message) (read : readOutcome bytes ≡ accepted at x) (way : onWay (s .fate) ≡ some bytes)
       (same-list : listed (s .dock) ≡ listed d) (does : Does modesOf start arrive s)
       (laptop-is : step modesOf arrive s .laptop ≡ heard (s .laptop) (s .memory) (readOutcome bytes) .step .laptop)
       (lost-is : step modesOf arrive s .laptop .pages ≡ s .laptop .pages → step modesOf arrive s .laptop .candidate ≡ Absent → step modesOf arrive s .lost ≡ s .lost)
-      (comes-as : Comes modesOf d meets (s .laptop) x got (heard (s .laptop) (s .memory) (accepted x))) where
-    then-is : receivedBy arrive s got ≡ withMessage (s .laptop .wait) (listed d) (accepted x) got
-    unfolding receivedBy
+      (comes-as : Comes modesOf d meets (s .laptop) x got (heard (s .laptop) (s .memory) (accepted at x))) where
+    then-is : receivedBy arrive s got ≡ withTaken (s .laptop .wait) (listed d) x got
+    unfolding receivedBy withMessage
     then-is =
         ap (λ (o : Option (List ℕ)). withArrival (s .laptop .wait) (listed (s .dock)) o got) way ∙
         ap (λ (o : Reading·Outcome). withMessage (s .laptop .wait) (listed (s .dock)) o got) read ∙
-        ap (λ (list : List ℕ). withMessage (s .laptop .wait) list (accepted x) got) same-list
+        ap (λ (list : List ℕ). withTaken (s .laptop .wait) list x got) same-list
 
-    new-is : bringsNew arrive s got ≡ newIn (s .laptop .wait) (listed d) (accepted x) got
+    new-is : bringsNew arrive s got ≡ isNew (s .laptop .wait) (listed d) x got
+    unfolding newIn
     new-is =
         ap (λ (o : Option (List ℕ)). newOf (s .laptop .wait) (listed (s .dock)) o got) way ∙
         ap (λ (o : Reading·Outcome). newIn (s .laptop .wait) (listed (s .dock)) o got) read ∙
-        ap (λ (list : List ℕ). newIn (s .laptop .wait) list (accepted x) got) same-list
+        ap (λ (list : List ℕ). isNew (s .laptop .wait) list x got) same-list
 
     last-is : isLastAnswer arrive s ≡ isLastHead (s .laptop) (x .head)
     unfolding isLastOutcome
     last-is = ap (isLastOf (s .laptop)) way ∙ ap (isLastOutcome (s .laptop)) read
 
-    number : needed modesOf d (receivedBy arrive s got) ≡ needed modesOf d (withMessage (s .laptop .wait) (listed d) (accepted x) got)
+    number : needed modesOf d (receivedBy arrive s got) ≡ needed modesOf d (withTaken (s .laptop .wait) (listed d) x got)
     number = ap (needed modesOf d) then-is
 
-    refused-is : refusalOf s (onWay (s .fate)) ≡ heard (s .laptop) (s .memory) (accepted x) .step .refusal
+    refused-is : refusalOf s (onWay (s .fate)) ≡ heard (s .laptop) (s .memory) (accepted at x) .step .refusal
     refused-is = ap (refusalOf s) way ∙ ap (λ (o : Reading·Outcome). heard (s .laptop) (s .memory) o .step .refusal) read
 
-    laptop-now : step modesOf arrive s .laptop ≡ heard (s .laptop) (s .memory) (accepted x) .step .laptop
+    laptop-now : step modesOf arrive s .laptop ≡ heard (s .laptop) (s .memory) (accepted at x) .step .laptop
     laptop-now = laptop-is ∙ ap (λ (o : Reading·Outcome). heard (s .laptop) (s .memory) o .step .laptop) read
 
     arrive-tallies : Tallies arrive s got
@@ -184,7 +186,7 @@ module _ (modesOf : ℕ → List ℕ) (start : System) (meets : Meets modesOf (s
           tells-then =
               subst (λ (l : Laptop). Tells modesOf d meets l (receivedBy arrive s got))
               (sym laptop-now)
-              (subst (Tells modesOf d meets (heard (s .laptop) (s .memory) (accepted x) .step .laptop)) (sym then-is) (comes-as .tells-on));
+              (subst (Tells modesOf d meets (heard (s .laptop) (s .memory) (accepted at x) .step .laptop)) (sym then-is) (comes-as .tells-on));
           lowers = (
             λ b. ap (λ (n : ℕ). n + 1) number ∙ comes-as .lowered (sym new-is ∙ b),
             λ b. omega (arith, number, comes-as .kept (sym new-is ∙ b)),
@@ -196,8 +198,8 @@ module _ (modesOf : ℕ → List ℕ) (start : System) (meets : Meets modesOf (s
           lost-kept = λ h n. lost-is (same-pages h n (isLastAnswer arrive s) refl) (given-up n (comes-as .tells-on));
         }
       where
-        why : (isLatePage (s .laptop) (x .head) ≡ true) ⊎ (heard (s .laptop) (s .memory) (accepted x) .step .refusal ≡ 14) → Ending s arrive
-        why (inl e) = by-late-page bytes x way read e
+        why : (isLatePage (s .laptop) (x .head) ≡ true) ⊎ (heard (s .laptop) (s .memory) (accepted at x) .step .refusal ≡ 14) → Ending s arrive
+        why (inl e) = by-late-page bytes at x way read e
         why (inr e) = by-fourteen (refused-is ∙ e)
 
         none-left : isLastAnswer arrive s ≡ true → needed modesOf d (receivedBy arrive s got) ≡ 0
@@ -206,7 +208,7 @@ module _ (modesOf : ℕ → List ℕ) (start : System) (meets : Meets modesOf (s
         some-left : isLastAnswer arrive s ≡ true → 0 < needed modesOf d got
         some-left e = comes-as .last-comes (sym last-is ∙ e) .0
 
-        not-now : (needed modesOf d got ≡ 0) ⊎ (0 < needed modesOf d (withMessage (s .laptop .wait) (listed d) (accepted x) got)) →
+        not-now : (needed modesOf d got ≡ 0) ⊎ (0 < needed modesOf d (withTaken (s .laptop .wait) (listed d) x got)) →
             0 < needed modesOf d got → needed modesOf d (receivedBy arrive s got) ≡ 0 → ⊥
         not-now (inl e) h n = omega arith
         not-now (inr e) h n = omega (arith, number)
@@ -222,7 +224,7 @@ module _ (modesOf : ℕ → List ℕ) (start : System) (meets : Meets modesOf (s
         same-pages h n false e = absurd (not-now (comes-as .other-comes (sym last-is ∙ e)) h n)
 
         given-up : needed modesOf d (receivedBy arrive s got) ≡ 0 →
-            Tells modesOf d meets (heard (s .laptop) (s .memory) (accepted x) .step .laptop) (withMessage (s .laptop .wait) (listed d) (accepted x) got) →
+            Tells modesOf d meets (heard (s .laptop) (s .memory) (accepted at x) .step .laptop) (withTaken (s .laptop .wait) (listed d) x got) →
             step modesOf arrive s .laptop .candidate ≡ Absent
         given-up n t = ap (λ (l : Laptop). l .candidate) laptop-now ∙ finished-absent modesOf d meets _ _ (sym number ∙ n) t
 
@@ -238,48 +240,48 @@ module _ (modesOf : ℕ → List ℕ) (start : System) (meets : Meets modesOf (s
 
   -- each event, where the invariant holds
   module _ (old : Holding) where
-    module _ (l : Laptop) (m : Memory) (way : Way) (q : ℕ) (t : Standing) (v : Carried) (z : ℕ) (i : Inv modesOf d old l m way q t v z) (got : List Message)
-        (tells : Tells modesOf d meets l got) where
+    module _ (h on : Edition) (l : Laptop) (m : Memory) (way : Way) (q : ℕ) (t : Standing) (v : Carried) (z : ℕ)
+        (i : Inv modesOf d old l m way q t v z) (got : List Message) (tells : Tells modesOf d meets l got) where
       abbrev at : System
-      at = systemOf modesOf d old l m way q t v z
+      at = systemOf modesOf d old h on l m way q t v z
 
       aside : (e : Event) → Does modesOf start e at → step modesOf e at .laptop ≡ l → bringsNew e at got ≡ false → isLastAnswer e at ≡ false →
           receivedBy e at got ≡ got → Tallies e at got
       aside e does same brings last got-same =
           same-tallies e at got does brings last got-same (subst (λ (x : Laptop). Tells modesOf d meets x got) (sym same) tells)
 
-    event-tallies : (e : Event) (l : Laptop) (m : Memory) (way : Way) (q : ℕ) (t : Standing) (v : Carried) (z : ℕ) →
-        Does modesOf start e (systemOf modesOf d old l m way q t v z) → Inv modesOf d old l m way q t v z → (got : List Message) →
-        Tells modesOf d meets l got → Tallies e (systemOf modesOf d old l m way q t v z) got
+    event-tallies : (h on : Edition) (e : Event) (l : Laptop) (m : Memory) (way : Way) (q : ℕ) (t : Standing) (v : Carried) (z : ℕ) →
+        Does modesOf start e (systemOf modesOf d old h on l m way q t v z) → Inv modesOf d old l m way q t v z → (got : List Message) →
+        Tells modesOf d meets l got → Tallies e (systemOf modesOf d old h on l m way q t v z) got
     unfolding step receivedBy
-    event-tallies (calls c out) l m way q t v z does i got tells = call-tallies _ got (i .formed) tells out c does
-    event-tallies loseRequest l m way q t v z does i got tells = aside l m way q t v z i got tells loseRequest does refl refl refl refl
-    event-tallies (reach out) l m way q t v z does i got tells =
-        aside l m way q t v z i got tells (reach out) does (reaches-aside _ out way (fateOf modesOf d v) .0) refl refl refl
-    event-tallies (answer policy out) l m way q t v z does i got tells =
-        aside l m way q t v z i got tells (answer policy out) does (answers-aside _ modesOf policy out t .0) refl refl refl
-    event-tallies loseAnswer l m way q t v z does i got tells =
-        aside l m way q t v z i got tells loseAnswer does (loses-aside _ (fateOf modesOf d v) .0) refl refl refl
-    event-tallies sent l m way q t v z does i got tells =
-        aside l m way q t v z i got tells sent does (sent-aside _ t (fateOf modesOf d v) .0) refl refl refl
-    event-tallies failed l m way q t v z does i got tells = aside l m way q t v z i got tells failed does (failed-aside _ t .0) refl refl refl
-    event-tallies arrive l m way q t nothing z does i got tells = aside l m way q t nothing z i got tells arrive does refl refl refl refl
-    event-tallies arrive l m way q t (arrived b) z does i got tells = aside l m way q t (arrived b) z i got tells arrive does refl refl refl refl
-    event-tallies arrive l m way q t (underWay a) z does i got tells =
-        arrive-tallies _ got (messageBytes (messageOf modesOf d a)) (messageOf modesOf d a) (answer-read modesOf d meets a (i .fate-fits .1)) refl refl does refl
-        (λ e c. lost-timely l _ t (dockAt modesOf d q t) z e c)
-        (comes modesOf d meets l m q t z (underWay a) (i .formed) (i .candidate-is) got a (i .fate-fits .1) (gives-gave modesOf d meets a q (i .fate-fits .0))
-        (timely modesOf d meets old l m way q t z a i) tells)
-    event-tallies arrive l m way q t (sure a) z does i got tells =
-        arrive-tallies _ got (messageBytes (messageOf modesOf d a)) (messageOf modesOf d a) (answer-read modesOf d meets a (i .fate-fits .1)) refl refl does refl
+    event-tallies h on (calls c out) l m way q t v z does i got tells = call-tallies _ got (i .formed) tells out c does
+    event-tallies h on loseRequest l m way q t v z does i got tells = aside h on l m way q t v z i got tells loseRequest does refl refl refl refl
+    event-tallies h on (reach out) l m way q t v z does i got tells =
+        aside h on l m way q t v z i got tells (reach out) does (reaches-aside _ out way (fateOf modesOf d on v) .0) refl refl refl
+    event-tallies h on (answer policy out) l m way q t v z does i got tells =
+        aside h on l m way q t v z i got tells (answer policy out) does (answers-aside _ modesOf policy out t .0) refl refl refl
+    event-tallies h on loseAnswer l m way q t v z does i got tells =
+        aside h on l m way q t v z i got tells loseAnswer does (loses-aside _ (fateOf modesOf d on v) .0) refl refl refl
+    event-tallies h on sent l m way q t v z does i got tells =
+        aside h on l m way q t v z i got tells sent does (sent-aside _ t (fateOf modesOf d on v) .0) refl refl refl
+    event-tallies h on failed l m way q t v z does i got tells = aside h on l m way q t v z i got tells failed does (failed-aside _ t .0) refl refl refl
+    event-tallies h on arrive l m way q t nothing z does i got tells = aside h on l m way q t nothing z i got tells arrive does refl refl refl refl
+    event-tallies h on arrive l m way q t (arrived b) z does i got tells = aside h on l m way q t (arrived b) z i got tells arrive does refl refl refl refl
+    event-tallies h on arrive l m way q t (underWay a) z does i got tells =
+        arrive-tallies _ got (messageBytes on (messageOf modesOf d a)) on (messageOf modesOf d a) (answer-read modesOf d meets on a (i .fate-fits .1)) refl refl does refl
+        (λ e c. lost-timely l _ t (listed d) q z e c)
+        (comes modesOf d meets l m q t z (underWay a) (i .formed) (i .candidate-is) got on a (i .fate-fits .1) (gives-gave modesOf d meets a q (i .fate-fits .0))
+        (timely modesOf d meets old on l m way q t z a i) tells)
+    event-tallies h on arrive l m way q t (sure a) z does i got tells =
+        arrive-tallies _ got (messageBytes on (messageOf modesOf d a)) on (messageOf modesOf d a) (answer-read modesOf d meets on a (i .fate-fits .1)) refl refl does refl
         (λ e c. ap (λ (b : Bool). cond b 0 z) (opens-none l _ c))
-        (comes modesOf d meets l m q t z (sure a) (i .formed) (i .candidate-is) got a (i .fate-fits .1) (i .fate-fits .0)
+        (comes modesOf d meets l m q t z (sure a) (i .formed) (i .candidate-is) got on a (i .fate-fits .1) (i .fate-fits .0)
         (confirmed-first (listed d) t q z a) tells)
 
     pub tallies : (e : Event) (s : System) → Reached modesOf d old s → (got : List Message) → Tells modesOf d meets (s .laptop) got → Tallies e s got
     tallies e s r got tells =
         subst (λ (x : System). Does modesOf start e x → Tallies e x got) (sym (r .is))
-        (λ f. event-tallies e (s .laptop) (s .memory) (s .way) (r .page-at) (r .standing-at) (r .carried) (s .lost) f (r .invariant) got tells)
+        (λ f. event-tallies (s .highest) (r .edition-at) e (s .laptop) (s .memory) (s .way) (r .page-at) (r .standing-at) (r .carried) (s .lost) f (r .invariant) got tells)
         (does modesOf start d old refl meets e s r)
 
     -- and so after every run

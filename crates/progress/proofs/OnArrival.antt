@@ -6,13 +6,12 @@ use mathlib.Core.List.{List, [], _∷_}
 use Prim.Native.Nat.{ℕ, zero, suc, _+_, _<_, _≤_}
 use native.Mathlib.Omega.{arith}
 use Rattle.messages.specs.Layout.{Message}
-use Rattle.messages.specs.Reading.{accepted}
 use Rattle.dock.specs.Data.{listed}
 use Rattle.dock.specs.declared.Dock.{Dock}
 use Rattle.hearing.specs.Hearing.{Result, isLatePage}
 use Rattle.laptop.specs.declared.Laptop.{Laptop}
 use Rattle.link.specs.Demand.{Meets}
-use Rattle.link.specs.Needed.{answersNeeded, needed, withMessage, newIn}
+use Rattle.link.specs.Needed.{answersNeeded, needed, withTaken, isNew}
 use Rattle.unharmed.proofs.LastAnswer.{isLastHead}
 use Rattle.progress.proofs.Missing.{missing-most}
 use Rattle.progress.proofs.Tells.{Tells, needs-some}
@@ -29,19 +28,19 @@ module _ (modesOf : ℕ → List ℕ) (d : Dock) (meets : Meets modesOf d) (l : 
     pub other-comes : isLastHead l (x .head) ≡ false → (needed modesOf d got ≡ 0) ⊎ (0 < needed modesOf d after)
 
   abbrev pub Comes : Result → Type 0
-  Comes r = ComesTo r (newIn (l .wait) (listed d) (accepted x) got) (withMessage (l .wait) (listed d) (accepted x) got)
+  Comes r = ComesTo r (isNew (l .wait) (listed d) x got) (withTaken (l .wait) (listed d) x got)
 
-  comes-to : (r : Result) (new : Bool) (after : List Message) → newIn (l .wait) (listed d) (accepted x) got ≡ new →
-      withMessage (l .wait) (listed d) (accepted x) got ≡ after → ComesTo r new after → Comes r
+  comes-to : (r : Result) (new : Bool) (after : List Message) → isNew (l .wait) (listed d) x got ≡ new →
+      withTaken (l .wait) (listed d) x got ≡ after → ComesTo r new after → Comes r
   comes-to r new after e f c =
-      subst (λ (b : Bool). ComesTo r b (withMessage (l .wait) (listed d) (accepted x) got)) (sym e) (subst (ComesTo r new) (sym f) c)
+      subst (λ (b : Bool). ComesTo r b (withTaken (l .wait) (listed d) x got)) (sym e) (subst (ComesTo r new) (sym f) c)
 
   zero-or-more : (n : ℕ) → (n ≡ 0) ⊎ (0 < n)
   zero-or-more zero = inl refl
   zero-or-more (suc n) = inr (omega arith)
 
   module _ (r : Result) where
-    pub comes-same : newIn (l .wait) (listed d) (accepted x) got ≡ false → withMessage (l .wait) (listed d) (accepted x) got ≡ got →
+    pub comes-same : isNew (l .wait) (listed d) x got ≡ false → withTaken (l .wait) (listed d) x got ≡ got →
         isLastHead l (x .head) ≡ false → Tells modesOf d meets (r .step .laptop) got → Comes r
     comes-same e f last t =
         comes-to r false got e f
@@ -55,7 +54,7 @@ module _ (modesOf : ℕ → List ℕ) (d : Dock) (meets : Meets modesOf d) (l : 
           other-comes = λ n. zero-or-more (needed modesOf d got);
         })
 
-    pub comes-new : newIn (l .wait) (listed d) (accepted x) got ≡ true → withMessage (l .wait) (listed d) (accepted x) got ≡ x ∷ got →
+    pub comes-new : isNew (l .wait) (listed d) x got ≡ true → withTaken (l .wait) (listed d) x got ≡ x ∷ got →
         needed modesOf d (x ∷ got) + 1 ≡ needed modesOf d got → (isLastHead l (x .head) ≡ true → needed modesOf d (x ∷ got) ≡ 0) →
         (isLastHead l (x .head) ≡ false → 0 < needed modesOf d (x ∷ got)) → (isLastHead l (x .head) ≡ true → r .step .laptop .pages ≡ l .pages) →
         Tells modesOf d meets (r .step .laptop) (x ∷ got) → Comes r
@@ -71,7 +70,7 @@ module _ (modesOf : ℕ → List ℕ) (d : Dock) (meets : Meets modesOf d) (l : 
           other-comes = λ n. inr (other n);
         })
 
-    pub comes-again : newIn (l .wait) (listed d) (accepted x) got ≡ false → withMessage (l .wait) (listed d) (accepted x) got ≡ x ∷ got →
+    pub comes-again : isNew (l .wait) (listed d) x got ≡ false → withTaken (l .wait) (listed d) x got ≡ x ∷ got →
         needed modesOf d (x ∷ got) ≡ needed modesOf d got → isLastHead l (x .head) ≡ false → 0 < needed modesOf d got →
         Tells modesOf d meets (r .step .laptop) (x ∷ got) → Comes r
     comes-again e f same last some t =
@@ -86,7 +85,7 @@ module _ (modesOf : ℕ → List ℕ) (d : Dock) (meets : Meets modesOf d) (l : 
           other-comes = λ n. inr (omega (arith, same, some));
         })
 
-    pub comes-none : newIn (l .wait) (listed d) (accepted x) got ≡ false → withMessage (l .wait) (listed d) (accepted x) got ≡ [] →
+    pub comes-none : isNew (l .wait) (listed d) x got ≡ false → withTaken (l .wait) (listed d) x got ≡ [] →
         isLastHead l (x .head) ≡ false → (isLatePage l (x .head) ≡ true) ⊎ (r .step .refusal ≡ 14) → Tells modesOf d meets (r .step .laptop) [] → Comes r
     comes-none e f last why t =
         comes-to r false [] e f

@@ -15,6 +15,7 @@ use Rattle.messages.specs.Requests.{svidsCommand, modesCommand, requestOf}
 use Rattle.messages.specs.Table.{pdSid}
 use Rattle.messages.specs.declared.Head.{Head}
 use Rattle.messages.specs.declared.request.Request.{Request}
+use Rattle.messages.specs.declared.edition.Edition.{Edition}
 use Rattle.dock.specs.Data.{listed}
 use Rattle.dock.specs.Dock.{reply}
 use Rattle.dock.specs.declared.Dock.{Dock}
@@ -61,7 +62,8 @@ is-late l h idle open-now is-page = rw (rests (l .wait) idle, open-now, is-page)
     rests (Answer r) e = absurd (false≢true (sym e))
 
 module _ (modesOf : ℕ → List ℕ) (d : Dock) (meets : Meets modesOf d) (l : Laptop) (m : Memory) (q : ℕ) (t : Standing) (z : ℕ) (v : Carried)
-    (formed : WellFormed l m) (candidate : CandidateIs modesOf d (l .candidate) (l .gathered) (l .stored) (l .pages) m t q v z) (got : List Message) where
+    (formed : WellFormed l m) (candidate : CandidateIs modesOf d (l .candidate) (l .gathered) (l .stored) (l .pages) m t q v z) (got : List Message)
+    (at : Edition) where
   abbrev list : List ℕ
   list = listed d
 
@@ -69,7 +71,7 @@ module _ (modesOf : ℕ → List ℕ) (d : Dock) (meets : Meets modesOf d) (l : 
   pagesInAll = length list / 12 + 1
 
   abbrev ComesWith : FairAnswer → Type 0
-  ComesWith a = Comes modesOf d meets l (messageOf modesOf d a) got (hearAnswer l m (messageOf modesOf d a))
+  ComesWith a = Comes modesOf d meets l (messageOf modesOf d a) got (hearAnswer l m at (messageOf modesOf d a))
 
   -- Identity
   module _ (shaped : Shaped modesOf d identityAck) (gave : Gave modesOf d identityAck q) (arrival : Arrival (listed d) t q z identityAck v)
@@ -98,7 +100,7 @@ module _ (modesOf : ℕ → List ℕ) (d : Dock) (meets : Meets modesOf d) (l : 
         let come : Come modesOf d meets 0 0 (identityAnswer d ∷ got) =
         subst (λ (g : List Message). Come modesOf d meets 0 0 (identityAnswer d ∷ g)) (sym e) (identity-comes modesOf d meets) in
         let more : 0 < needed modesOf d (identityAnswer d ∷ got) = open-needed modesOf d meets 0 (identityAnswer d ∷ got) (omega arith) come in
-        subst (Comes modesOf d meets l (identityAnswer d) got) (sym (identity-heard l m (take (d .extent) (d .identity))))
+        subst (Comes modesOf d meets l (identityAnswer d) got) (sym (identity-heard l m at (take (d .extent) (d .identity))))
         (comes-new modesOf d meets l (identityAnswer d) got _ (is-new (l .wait) list (identityAnswer d) got awaited refl few)
         (added (l .wait) list (identityAnswer d) got awaited few) less (λ x. absurd (false≢true (sym last ∙ x))) (λ x. more)
         (λ x. absurd (false≢true (sym last ∙ x)))
@@ -155,7 +157,7 @@ module _ (modesOf : ℕ → List ℕ) (d : Dock) (meets : Meets modesOf d) (l : 
         go true b now left before listless few awaited =
             let less = ltb-true (l .stored + 1) (l .gathered .count) b in
             let last : isLastHead l (words .head) ≡ false = head-last ∙ ne-eqb (l .stored + 1) (l .gathered .count) (λ e. omega arith) in
-            subst (Comes modesOf d meets l words got) (sym (modes-more l m svid (modesOf svid) places less))
+            subst (Comes modesOf d meets l words got) (sym (modes-more l m at svid (modesOf svid) places less))
             (comes-new modesOf d meets l words got _ (is-new (l .wait) list words got awaited refl few) (added (l .wait) list words got awaited few)
             (omega (arith, left, before)) (λ x. absurd (false≢true (sym last ∙ x))) (λ x. omega (arith, left, all-listed))
             (λ x. absurd (false≢true (sym last ∙ x)))
@@ -164,7 +166,7 @@ module _ (modesOf : ℕ → List ℕ) (d : Dock) (meets : Meets modesOf d) (l : 
             let least = ltb-false (l .stored + 1) (l .gathered .count) b in
             let end : l .stored + 1 ≡ l .gathered .count = omega (arith, all-listed, h) in
             let last : isLastHead l (words .head) ≡ true = head-last ∙ eq-eqb (l .stored + 1) (l .gathered .count) end in
-            subst (Comes modesOf d meets l words got) (sym (modes-last l m svid (modesOf svid) places done-now least))
+            subst (Comes modesOf d meets l words got) (sym (modes-last l m at svid (modesOf svid) places done-now least))
             (comes-new modesOf d meets l words got _ (is-new (l .wait) list words got awaited refl few) (added (l .wait) list words got awaited few)
             (omega (arith, left, before)) (λ x. omega (arith, left, all-listed)) (λ x. absurd (false≢true (sym x ∙ last))) (λ x. refl)
             (all-came (omega (arith, left, all-listed)) listless refl refl (omega (arith, pages))))
@@ -188,7 +190,7 @@ module _ (modesOf : ℕ → List ℕ) (d : Dock) (meets : Meets modesOf d) (l : 
         let few : isTooMany list (emptyAnswer ∷ got) ≡ false = done-enough list (emptyAnswer ∷ got) (list-done list (emptyAnswer ∷ got) (none .1)) in
         let awaited : isAnswer (l .wait) emptyAnswer ≡ true = is-answer (l .wait) emptyAnswer (ap (λ (w : Wait). fits w (emptyAnswer .head)) waits) refl refl in
         let empty : l .gathered .count ≡ 0 = omega (arith, count, most, ap length gave) in
-        subst (Comes modesOf d meets l emptyAnswer got) (sym (svids-nak l m empty-open empty))
+        subst (Comes modesOf d meets l emptyAnswer got) (sym (svids-nak l m at empty-open empty))
         (comes-new modesOf d meets l emptyAnswer got _ (is-new (l .wait) list emptyAnswer got awaited refl few) (added (l .wait) list emptyAnswer got awaited few)
         (omega (arith, none .0, nak-needed modesOf d meets p 0 got come gave)) (λ x. none .0) (λ x. absurd (false≢true (sym x ∙ last))) (λ x. refl)
         (all-came (none .0) (none .1) refl refl (omega (arith, pages))))
@@ -216,7 +218,7 @@ module _ (modesOf : ℕ → List ℕ) (d : Dock) (meets : Meets modesOf d) (l : 
   mode-arrives : (r : Request) (shaped : Shaped modesOf d (modeAck r)) (gave : Gave modesOf d (modeAck r) q) (arrival : Arrival (listed d) t q z (modeAck r) v) →
       l .wait ≡ Answer r → Tells modesOf d meets l got → ComesWith (modeAck r)
   mode-arrives r shaped gave arrival waits tells =
-      subst (Comes modesOf d meets l (reply r ack []) got) (sym (mode-marked l m r gave))
+      subst (Comes modesOf d meets l (reply r ack []) got) (sym (mode-marked l m at r gave))
       (left-alone (reply r ack []) _ (no-answer-mode (l .wait) (reply r ack []) (lt-leb (r .command) 3 (omega (arith, gave))))
       (late-awaited (l .wait) list (reply r ack []) got (ap isAwaiting waits))
       (mode-last modesOf d meets l m q t z v formed candidate r shaped gave arrival waits) (ended-tells tells))
@@ -237,20 +239,20 @@ module _ (modesOf : ℕ → List ℕ) (d : Dock) (meets : Meets modesOf d) (l : 
         go : WaitFits (Answer r) (l .candidate) (l .pages) (l .stored) (m .svids) → ComesWith (busyTo r)
         go (inl f) =
             subst (Comes modesOf d meets l (reply r busy []) got)
-            (sym (ap (λ (x : Request). hearAnswer l m (reply x busy [])) (f .0) ∙ identity-busy l m))
+            (sym (ap (λ (x : Request). hearAnswer l m at (reply x busy [])) (f .0) ∙ identity-busy l m at))
             (busy-comes Told·Nothing (dropped l) (dropped-tells (f .1) tells))
         go (inr (inl f)) =
             subst (Comes modesOf d meets l (reply r busy []) got)
-            (sym (ap (λ (x : Request). hearAnswer l m (reply x busy [])) (f .0) ∙ svids-busy l m (f .1)))
+            (sym (ap (λ (x : Request). hearAnswer l m at (reply x busy [])) (f .0) ∙ svids-busy l m at (f .1)))
             (busy-comes Told·Nothing (ended l) (ended-tells tells))
         go (inr (inr (inl f))) =
             let fit : Listed (l .gathered) (l .stored) (m .svids) (m .modes) × (l .stored < l .gathered .count) =
             subst (λ (c : Candidate). CandidateFits c (l .gathered) (l .pages) (l .stored) (m .svids) (m .modes)) (f .1) (formed .candidate-fits) in
             subst (Comes modesOf d meets l (reply r busy []) got)
-            (sym (ap (λ (x : Request). hearAnswer l m (reply x busy [])) (f .0) ∙ modes-busy l m (getD (m .svids) (l .stored) 0)))
+            (sym (ap (λ (x : Request). hearAnswer l m at (reply x busy [])) (f .0) ∙ modes-busy l m at (getD (m .svids) (l .stored) 0)))
             (busy-comes Told·Nothing (ended l) (ended-tells tells))
         go (inr (inr (inr f))) =
-            subst (Comes modesOf d meets l (reply r busy []) got) (sym (mode-busy l m r (f .0)))
+            subst (Comes modesOf d meets l (reply r busy []) got) (sym (mode-busy l m at r (f .0)))
             (busy-comes (declinedAs 3 r) (ended l) (ended-tells tells))
 
   -- all of them
@@ -258,7 +260,7 @@ module _ (modesOf : ℕ → List ℕ) (d : Dock) (meets : Meets modesOf d) (l : 
       l .wait ≡ Answer (requestOf (messageOf modesOf d a .head)) → Tells modesOf d meets l got → ComesWith a
   answer-arrives identityAck shaped gave arrival waits tells = identity-arrives shaped gave arrival waits tells
   answer-arrives (pageAck p) shaped gave arrival waits tells =
-      page-arrives modesOf d meets l m q t z v formed candidate p shaped gave arrival waits got tells
+      page-arrives modesOf d meets l m q t z v formed candidate p shaped gave arrival waits got at tells
   answer-arrives (modesAck svid) shaped gave arrival waits tells = modes-arrive svid shaped gave arrival waits tells
   answer-arrives (modeAck r) shaped gave arrival waits tells = mode-arrives r shaped gave arrival waits tells
   answer-arrives listNak shaped gave arrival waits tells = empty-arrives shaped gave arrival waits tells
@@ -316,7 +318,7 @@ module _ (modesOf : ℕ → List ℕ) (d : Dock) (meets : Meets modesOf d) (l : 
 
   -- any of them, whatever is awaited
   pub comes : (a : FairAnswer) (shaped : Shaped modesOf d a) (gave : Gave modesOf d a q) (arrival : Arrival (listed d) t q z a v) →
-      Tells modesOf d meets l got → Comes modesOf d meets l (messageOf modesOf d a) got (heard l m (accepted (messageOf modesOf d a)))
+      Tells modesOf d meets l got → Comes modesOf d meets l (messageOf modesOf d a) got (heard l m (accepted at (messageOf modesOf d a)))
   comes a shaped gave arrival tells = go (fits (l .wait) (x .head)) (isLatePage l (x .head)) refl refl
     where
       x : Message
@@ -325,11 +327,11 @@ module _ (modesOf : ℕ → List ℕ) (d : Dock) (meets : Meets modesOf d) (l : 
       answers : eqb (x .head .kind) 0 ≡ false
       answers = no-request modesOf d meets l m q t z v formed candidate a
 
-      go : (b c : Bool) → fits (l .wait) (x .head) ≡ b → isLatePage l (x .head) ≡ c → Comes modesOf d meets l x got (heard l m (accepted x))
+      go : (b c : Bool) → fits (l .wait) (x .head) ≡ b → isLatePage l (x .head) ≡ c → Comes modesOf d meets l x got (heard l m (accepted at x))
       go true c e n =
-          subst (Comes modesOf d meets l x got) (sym (hear-fit l m (formed .lent) x answers e))
+          subst (Comes modesOf d meets l x got) (sym (hear-fit l m (formed .lent) at x answers e))
           (answer-arrives a shaped gave arrival (fits-is (l .wait) (x .head) e) tells)
       go false true e n =
-          subst (Comes modesOf d meets l x got) (sym (hear-late l m (formed .lent) x answers e n)) (late-arrives a e n tells)
+          subst (Comes modesOf d meets l x got) (sym (hear-late l m (formed .lent) at x answers e n)) (late-arrives a e n tells)
       go false false e n =
-          subst (Comes modesOf d meets l x got) (sym (hear-ignored l m (formed .lent) x answers e n)) (ignored-arrives a e n tells)
+          subst (Comes modesOf d meets l x got) (sym (hear-ignored l m (formed .lent) at x answers e n)) (ignored-arrives a e n tells)

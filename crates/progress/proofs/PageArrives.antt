@@ -17,6 +17,7 @@ use Rattle.pages.proofs.Laws.{last-exactly}
 use Rattle.taking.specs.Taking.{verdict}
 use Rattle.taking.specs.declared.Verdict.the-variants.{Repeat, More, Ends}
 use Rattle.taking.proofs.Sizes.{more-fits, ends-fits}
+use Rattle.messages.specs.declared.edition.Edition.{Edition}
 use Rattle.dock.specs.Data.{listed}
 use Rattle.dock.specs.declared.Dock.{Dock}
 use Rattle.dock.specs.declared.Standing.{Standing}
@@ -43,7 +44,7 @@ use Rattle.progress.proofs.Tells.{Tells, none-came, all-came, pages-com
 module _ (modesOf : ℕ → List ℕ) (d : Dock) (meets : Meets modesOf d) (l : Laptop) (m : Memory) (q : ℕ) (t : Standing) (z : ℕ) (v : Carried)
     (formed : WellFormed l m) (candidate : CandidateIs modesOf d (l .candidate) (l .gathered) (l .stored) (l .pages) m t q v z) (p : ℕ)
     (shaped : Shaped modesOf d (pageAck p)) (gave : Gave modesOf d (pageAck p) q) (arrival : Arrival (listed d) t q z (pageAck p) v)
-    (waits : l .wait ≡ Answer (discover pdSid svidsCommand)) (got : List Message) where
+    (waits : l .wait ≡ Answer (discover pdSid svidsCommand)) (got : List Message) (at : Edition) where
   abbrev answer : Message
   answer = messageOf modesOf d (pageAck p)
 
@@ -57,7 +58,7 @@ module _ (modesOf : ℕ → List ℕ) (d : Dock) (meets : Meets modesOf d) (l : 
   gathered = gatheredList l (m .svids)
 
   abbrev PageComes : Type 0
-  PageComes = Comes modesOf d meets l answer got (hearAnswer l m answer)
+  PageComes = Comes modesOf d meets l answer got (hearAnswer l m at answer)
 
   awaited : isAnswer (l .wait) answer ≡ true
   awaited = is-answer (l .wait) answer (ap (λ w. fits w (answer .head)) waits) refl refl
@@ -90,7 +91,7 @@ module _ (modesOf : ℕ → List ℕ) (d : Dock) (meets : Meets modesOf d) (l : 
         0 < missing (listAnswers list) (answer ∷ got) → PageComes
     fourteen e h left =
         let many : isTooMany list (answer ∷ got) ≡ true = too-many list (answer ∷ got) (omega (arith, counted-in)) (list-open list (answer ∷ got) left) in
-        subst (Comes modesOf d meets l answer got) (sym (page-fourteen l m open-now fit (page list p) e h))
+        subst (Comes modesOf d meets l answer got) (sym (page-fourteen l m at open-now fit (page list p) e h))
         (comes-none modesOf d meets l answer got _ (not-new-fourteen (l .wait) list answer got awaited many)
         (ended-by-fourteen (l .wait) list answer got awaited many) not-last (inr refl) (none-came refl refl))
 
@@ -111,7 +112,7 @@ module _ (modesOf : ℕ → List ℕ) (d : Dock) (meets : Meets modesOf d) (l : 
         go : (b : Bool) → ltb (l .pages + 1) 200 ≡ b → PageComes
         go true b =
             let few : isTooMany list (answer ∷ got) ≡ false = few-enough list (answer ∷ got) (omega (arith, counted-in, ltb-true (l .pages + 1) 200 b)) in
-            subst (Comes modesOf d meets l answer got) (sym (page-more l m open-now fit (page list p) e (ltb-true (l .pages + 1) 200 b)))
+            subst (Comes modesOf d meets l answer got) (sym (page-more l m at open-now fit (page list p) e (ltb-true (l .pages + 1) 200 b)))
             (comes-new modesOf d meets l answer got _ (is-new (l .wait) list answer got awaited new few) (added (l .wait) list answer got awaited few)
             (omega (arith, left, still-needed modesOf d meets n 0 got come gave)) (λ x. absurd (false≢true (sym not-last ∙ x)))
             (λ x. omega (arith, left, gave)) (λ x. absurd (false≢true (sym not-last ∙ x)))
@@ -136,7 +137,7 @@ module _ (modesOf : ℕ → List ℕ) (d : Dock) (meets : Meets modesOf d) (l : 
         go : (b : Bool) → ltb (l .pages + 1) 200 ≡ b → PageComes
         go true b =
             let few : isTooMany list (answer ∷ got) ≡ false = few-enough list (answer ∷ got) (omega (arith, counted-in, ltb-true (l .pages + 1) 200 b)) in
-            subst (Comes modesOf d meets l answer got) (sym (page-again l m open-now fit (page list p) e (ltb-true (l .pages + 1) 200 b)))
+            subst (Comes modesOf d meets l answer got) (sym (page-again l m at open-now fit (page list p) e (ltb-true (l .pages + 1) 200 b)))
             (comes-again modesOf d meets l answer got _ (not-new-again (l .wait) list answer got awaited old) (added (l .wait) list answer got awaited few)
             (omega (arith, left, still-needed modesOf d meets n 0 got come gave)) not-last
             (omega (arith, still-needed modesOf d meets n 0 got come gave, gave))
@@ -161,7 +162,7 @@ module _ (modesOf : ℕ → List ℕ) (d : Dock) (meets : Meets modesOf d) (l : 
         let fits-page = ends-fits gathered (halves (page list p)) k e in
         subst (Comes modesOf d meets l answer got)
         (sym
-        (page-last l m open-now fit (page list p) k e
+        (page-last l m at open-now fit (page list p) k e
         (omega (arith, unstored, length-append gathered (take k (halves (page list p))), length-take-le k (halves (page list p)) (fits-page .0), gave))))
         (comes-new modesOf d meets l answer got _ (is-new (l .wait) list answer got awaited new few) (added (l .wait) list answer got awaited few)
         (omega (arith, left, still-needed modesOf d meets n 0 got come gave)) (λ x. absurd (false≢true (sym not-last ∙ x)))

@@ -6,12 +6,11 @@ use Prim.Native.Nat.{ℕ, _<_, _≤_}
 use lib.Dec.{leb, eqb}
 use borrow.Author.Tests.{le-leb, lt-leb, lt-ltb}
 use Rattle.messages.specs.Layout.{busy, Message}
-use Rattle.messages.specs.Reading.{accepted}
 use Rattle.hearing.specs.Hearing.{fits}
 use Rattle.laptop.specs.Calls.{isAwaiting}
 use Rattle.laptop.specs.declared.Wait.{Wait}
 use Rattle.unharmed.proofs.Awaited.{and-no}
-use Rattle.link.specs.Needed.{listAnswers, hasCome, missing, isPageAnswer, pagesIn, isListing, isTooMany, isAnswer, isLate, withAnswer, withMessage, isNew, newIn}
+use Rattle.link.specs.Needed.{listAnswers, hasCome, missing, isPageAnswer, pagesIn, isListing, isTooMany, isAnswer, isLate, withAnswer, withTaken, isNew}
 
 module _ (list : List ℕ) (got : List Message) where
   pub list-open : 0 < missing (listAnswers list) got → isListing list got ≡ true
@@ -37,38 +36,38 @@ module _ (list : List ℕ) (got : List Message) where
 module _ (w : Wait) (list : List ℕ) (m : Message) (got : List Message) where
   -- an answer of the gathering
   module _ (yes : isAnswer w m ≡ true) where
-    pub added : isTooMany list (m ∷ got) ≡ false → withMessage w list (accepted m) got ≡ m ∷ got
-    unfolding withMessage withAnswer
+    pub added : isTooMany list (m ∷ got) ≡ false → withTaken w list m got ≡ m ∷ got
+    unfolding withTaken withAnswer
     added e = rw (yes, e)
 
-    pub ended-by-fourteen : isTooMany list (m ∷ got) ≡ true → withMessage w list (accepted m) got ≡ []
-    unfolding withMessage withAnswer
+    pub ended-by-fourteen : isTooMany list (m ∷ got) ≡ true → withTaken w list m got ≡ []
+    unfolding withTaken withAnswer
     ended-by-fourteen e = rw (yes, e)
 
-    pub is-new : (isPageAnswer m && hasCome m got) ≡ false → isTooMany list (m ∷ got) ≡ false → newIn w list (accepted m) got ≡ true
-    unfolding newIn isNew
+    pub is-new : (isPageAnswer m && hasCome m got) ≡ false → isTooMany list (m ∷ got) ≡ false → isNew w list m got ≡ true
+    unfolding isNew
     is-new a b = rw (yes, a, b)
 
-    pub not-new-again : (isPageAnswer m && hasCome m got) ≡ true → newIn w list (accepted m) got ≡ false
-    unfolding newIn isNew
+    pub not-new-again : (isPageAnswer m && hasCome m got) ≡ true → isNew w list m got ≡ false
+    unfolding isNew
     not-new-again a = rw (yes, a)
 
-    pub not-new-fourteen : isTooMany list (m ∷ got) ≡ true → newIn w list (accepted m) got ≡ false
-    unfolding newIn isNew
+    pub not-new-fourteen : isTooMany list (m ∷ got) ≡ true → isNew w list m got ≡ false
+    unfolding isNew
     not-new-fourteen b = rw (yes, b) (and-no (not (isPageAnswer m && hasCome m got)))
 
   -- another message
   module _ (no : isAnswer w m ≡ false) where
-    pub dropped-late : isLate w list m got ≡ true → withMessage w list (accepted m) got ≡ []
-    unfolding withMessage
+    pub dropped-late : isLate w list m got ≡ true → withTaken w list m got ≡ []
+    unfolding withTaken
     dropped-late e = rw (no, e)
 
-    pub not-late : isLate w list m got ≡ false → withMessage w list (accepted m) got ≡ got
-    unfolding withMessage
+    pub not-late : isLate w list m got ≡ false → withTaken w list m got ≡ got
+    unfolding withTaken
     not-late e = rw (no, e)
 
-    pub not-new-other : newIn w list (accepted m) got ≡ false
-    unfolding newIn isNew
+    pub not-new-other : isNew w list m got ≡ false
+    unfolding isNew
     not-new-other = rw no
 
 module _ (w : Wait) (m : Message) where

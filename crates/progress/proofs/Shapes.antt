@@ -9,13 +9,12 @@ use lib.ListN.{length, getD, take}
 use lib.Seq.{length-take-le}
 use borrow.Author.Tests.{eq-eqb, le-leb, le-ltb, leb-true}
 use Rattle.laws.proofs.Lines.{and-left, and-right}
-use Rattle.messages.specs.Layout.{Message, messageBytes}
+use Rattle.messages.specs.Layout.{Message, messageLength}
 use Rattle.messages.specs.Requests.{svidsCommand, modesCommand}
 use Rattle.messages.specs.Table.{pdSid, rowOf, countsOf, fits, shape}
 use Rattle.messages.specs.Writing.{wellShaped, writeRefusal}
 use Rattle.messages.proofs.Laws.{write-accepted}
 use Rattle.messages.proofs.Rule.{shape-count}
-use Rattle.messages.proofs.Stores.{length-message}
 use Rattle.pages.proofs.Laws.{page-size}
 use Rattle.pages.proofs.Scanning.{sound-no-zero}
 use Rattle.dock.specs.Data.{listed, goodIdentity}
@@ -32,7 +31,7 @@ unfolding wellShaped
 has-room m out good room =
     eq-eqb (writeRefusal m (length out)) 0
     (write-accepted m (length out) .1
-    (good, le-ltb (length out) (length (messageBytes m)) (omega (arith, length-message m, shape-count (m .head) (length (m .objects) + 1) good .1))))
+    (good, le-ltb (length out) (messageLength m) (omega (arith, shape-count (m .head) (length (m .objects) + 1) good .1))))
 
 -- the requests
 pub svids-request-shaped : wellShaped (requestMessage (discover pdSid svidsCommand)) ≡ true

@@ -20,6 +20,7 @@ use Rattle.pages.proofs.Laws.{last-exactly}
 use Rattle.taking.specs.Taking.{verdict}
 use Rattle.taking.specs.declared.Verdict.the-variants.{More, Ends}
 use Rattle.taking.proofs.Sizes.{ends-fits}
+use Rattle.messages.specs.declared.edition.Edition.{Edition}
 use Rattle.dock.specs.Data.{listed}
 use Rattle.dock.specs.Dock.{isEmpty}
 use Rattle.dock.specs.declared.Dock.{Dock}
@@ -46,7 +47,7 @@ use Rattle.unharmed.proofs.Hears.{hear-fit, page-more, page-last, svids-nak, mo
 use Rattle.unharmed.proofs.Invariant.{messageOf, Shaped, Complete, CandidateIs}
 use Rattle.progress.proofs.Advancing.{Advance, goes-on, ends-with}
 use Rattle.progress.proofs.Clean.{rested, Stage, listing, storing, Clean, rested-inv}
-use Rattle.progress.proofs.Exchange.{page-given, nak-given, modes-given}
+use Rattle.progress.proofs.Exchange.{answeredAt, page-given, nak-given, modes-given}
 use Rattle.progress.proofs.Numbers.{open-number, empty-number, done-number}
 use Rattle.progress.proofs.Shapes.{svids-request-shaped, empty-answer-shaped, page-answer-shaped, request-shaped, modes-answer-shaped}
 use Rattle.progress.proofs.Tells.{empty-or-some}
@@ -78,7 +79,7 @@ some-list : (list : List ℕ) → 0 < length list → isEmpty list ≡ false
 some-list [] h = absurd (omega arith)
 some-list (svid ∷ list) h = refl
 
-module _ (modesOf : ℕ → List ℕ) (start : System) (meets : Meets modesOf (start .dock)) (all : HasAll modesOf (start .dock)) (old base : Holding)
+module _ (modesOf : ℕ → List ℕ) (start : System) (meets : Meets modesOf (start .dock)) (all : HasAll modesOf (start .dock)) (old base : Holding) (h : Edition)
     (out : List ℕ) (room : 28 ≤ length out) where
   abbrev d : Dock
   d = start .dock
@@ -86,20 +87,25 @@ module _ (modesOf : ℕ → List ℕ) (start : System) (meets : Meets modesOf (s
   abbrev list : List ℕ
   list = listed d
 
-  module _ (l : Laptop) (m : Memory) (way : Way) (p : ℕ) (got : List Message) (clean : Clean modesOf d meets old base out room l m way p got) where
+  module _ (e : Edition) (l : Laptop) (m : Memory) (way : Way) (p : ℕ) (got : List Message)
+      (clean : Clean modesOf d meets old base h out room e l m way p got) where
+    -- the edition of the answer
+    abbrev now : Edition
+    now = answeredAt modesOf d h out room (l .edition)
+
     abbrev Advances : Type 0
-    Advances = Advance modesOf start meets old base out room (rested modesOf d meets old base out room l m way p) got
+    Advances = Advance modesOf start meets old base h out room (rested modesOf d meets old base h out room e l m way p) got
 
     invariant : Inv modesOf d old l m way p Ready nothing 0
-    invariant = rested-inv modesOf d meets old base out room l m way p (clean .reached-so)
+    invariant = rested-inv modesOf d meets old base h out room e l m way p (clean .reached-so)
 
     -- what the laptop hears
     hears : (r : Request) (a : FairAnswer) (result : Result) → Shaped modesOf d a → eqb (messageOf modesOf d a .head .kind) 0 ≡ false →
-        fits (Answer r) (messageOf modesOf d a .head) ≡ true → hearAnswer (awaiting r l) m (messageOf modesOf d a) ≡ result →
-        heard (awaiting r l) m (readOutcome (messageBytes (messageOf modesOf d a))) ≡ result
-    hears r a result shaped answers fit e =
-        ap (heard (awaiting r l) m) (answer-read modesOf d meets a shaped) ∙
-        hear-fit (awaiting r l) m (invariant .formed .lent) (messageOf modesOf d a) answers fit ∙ e
+        fits (Answer r) (messageOf modesOf d a .head) ≡ true → hearAnswer (awaiting r l) m now (messageOf modesOf d a) ≡ result →
+        heard (awaiting r l) m (readOutcome (messageBytes now (messageOf modesOf d a))) ≡ result
+    hears r a result shaped answers fit is =
+        ap (heard (awaiting r l) m) (answer-read modesOf d meets now a shaped) ∙
+        hear-fit (awaiting r l) m (invariant .formed .lent) now (messageOf modesOf d a) answers fit ∙ is
 
     -- the list is open
     module _ (open-now : l .candidate ≡ Open) (count : l .gathered .count ≡ p * 12) where
@@ -136,29 +142,29 @@ module _ (modesOf : ℕ → List ℕ) (start : System) (meets : Meets modesOf (s
 
         more-advances : verdict gathered values ≡ More → p * 12 + 12 ≤ length list → l .pages ≡ p + 0 → Advances
         unfolding pageThen
-        more-advances e h k =
-            goes-on modesOf start meets old base out room l m way p got clean request (awaiting request l) (asks-svids l (m .svids) open-now) refl refl
-            svids-request-shaped (omega arith) (omega arith) (pageAnswer list p) true (page-given modesOf d out room p (some-list list some))
+        more-advances is more k =
+            goes-on modesOf start meets old base h out room e l m way p got clean request (awaiting request l) (asks-svids l (m .svids) open-now) refl refl
+            svids-request-shaped (omega arith) (omega arith) (pageAnswer list p) true (page-given modesOf d h out room now p (some-list list some))
             (page-answer-shaped list p) _
-            (hears request (pageAck p) _ (page-answer-shaped list p) refl refl (page-more (awaiting request l) m open-now (omega (arith, few)) (page list p) e (omega (arith, few))))
+            (hears request (pageAck p) _ (page-answer-shaped list p) refl refl (page-more (awaiting request l) m now open-now (omega (arith, few)) (page list p) is (omega (arith, few))))
             refl refl refl (listing refl counted)
             (λ t. let after = open-number modesOf d meets _ _ refl (p + 1) (omega (arith, size)) some t in
             (omega (arith, after .0, before .0), omega (arith, after .0)))
           where
             counted : length gathered + 12 ≡ movesOn list true p * 12
-            counted = rw (moves-more list p (last-no list p h)) (omega (arith, size))
+            counted = rw (moves-more list p (last-no list p more)) (omega (arith, size))
 
         last-advances : (k : ℕ) → verdict gathered values ≡ Ends k → gathered ++ take k values ≡ list → isLast list p ≡ true → l .pages ≡ p + 0 → Advances
         unfolding pageThen
-        last-advances k e whole last pages =
-            let fit = ends-fits gathered values k e in
+        last-advances k is whole last pages =
+            let fit = ends-fits gathered values k is in
             let both : length (gathered ++ take k values) ≡ length list = ap length whole in
             let all-pages : p ≡ length list / 12 = last-exactly list p (omega (arith, before .1)) .0 last in
-            goes-on modesOf start meets old base out room l m way p got clean request (awaiting request l) (asks-svids l (m .svids) open-now) refl refl
-            svids-request-shaped (omega arith) (omega arith) (pageAnswer list p) true (page-given modesOf d out room p (some-list list some))
+            goes-on modesOf start meets old base h out room e l m way p got clean request (awaiting request l) (asks-svids l (m .svids) open-now) refl refl
+            svids-request-shaped (omega arith) (omega arith) (pageAnswer list p) true (page-given modesOf d h out room now p (some-list list some))
             (page-answer-shaped list p) _
             (hears request (pageAck p) _ (page-answer-shaped list p) refl refl
-            (page-last (awaiting request l) m open-now (omega (arith, few, before .1)) (page list p) k e
+            (page-last (awaiting request l) m now open-now (omega (arith, few, before .1)) (page list p) k is
             (omega (arith, open-fits .2, length-append gathered (take k values), length-take-le k values (fit .0), some))))
             refl refl refl (storing refl)
             (λ t. let after = done-number modesOf d meets _ _ refl t in
@@ -178,11 +184,11 @@ module _ (modesOf : ℕ → List ℕ) (start : System) (meets : Meets modesOf (s
       unfolding pageThen isLastHead
       empty-advances empty =
           let before = empty-number modesOf d meets l got open-now empty (clean .tells-so) in
-          ends-with modesOf start meets old base out room l m way p got clean request (awaiting request l) (asks-svids l (m .svids) open-now) refl refl
-          svids-request-shaped (omega arith) (omega arith) emptyAnswer false (nak-given modesOf d out room p (ap isEmpty empty))
+          ends-with modesOf start meets old base h out room e l m way p got clean request (awaiting request l) (asks-svids l (m .svids) open-now) refl refl
+          svids-request-shaped (omega arith) (omega arith) emptyAnswer false (nak-given modesOf d h out room now p (ap isEmpty empty))
           empty-answer-shaped _
-          (hears request listNak _ empty-answer-shaped refl refl (svids-nak (awaiting request l) m open-now (before .1)))
-          refl (answer-read modesOf d meets listNak empty-answer-shaped) (before .0) (λ some. absurd (omega (arith, ap length empty)))
+          (hears request listNak _ empty-answer-shaped refl refl (svids-nak (awaiting request l) m now open-now (before .1)))
+          refl (answer-read modesOf d meets now listNak empty-answer-shaped) (before .0) (λ some. absurd (omega (arith, ap length empty)))
 
       listing-advances : Advances
       listing-advances = go (empty-or-some modesOf d meets list)
@@ -238,10 +244,10 @@ module _ (modesOf : ℕ → List ℕ) (start : System) (meets : Meets modesOf (s
       stored-advances : l .stored + 1 < l .gathered .count → Advances
       unfolding pageThen
       stored-advances less =
-          goes-on modesOf start meets old base out room l m way p got clean asked (awaiting asked l) (asks-modes l (m .svids) done-now) refl refl
-          asked-shaped (omega arith) (omega arith) (modesAnswer modesOf svid) false (modes-given modesOf d out room p svid some-modes few-modes)
+          goes-on modesOf start meets old base h out room e l m way p got clean asked (awaiting asked l) (asks-modes l (m .svids) done-now) refl refl
+          asked-shaped (omega arith) (omega arith) (modesAnswer modesOf svid) false (modes-given modesOf d h out room now p svid some-modes few-modes)
           answer-shaped _
-          (hears asked (modesAck svid) _ answer-shaped refl fits-answer (modes-more (awaiting asked l) m svid (modesOf svid) places less))
+          (hears asked (modesAck svid) _ answer-shaped refl fits-answer (modes-more (awaiting asked l) m now svid (modesOf svid) places less))
           refl refl refl (storing done-now)
           (λ t. let after = done-number modesOf d meets _ _ done-now t in
           (omega (arith, after .0, before-modes .0, before-modes .1), omega (arith, after .0, all-listed)))
@@ -249,11 +255,11 @@ module _ (modesOf : ℕ → List ℕ) (start : System) (meets : Meets modesOf (s
       last-stored : l .gathered .count ≤ l .stored + 1 → Advances
       unfolding pageThen
       last-stored least =
-          ends-with modesOf start meets old base out room l m way p got clean asked (awaiting asked l) (asks-modes l (m .svids) done-now) refl refl
-          asked-shaped (omega arith) (omega arith) (modesAnswer modesOf svid) false (modes-given modesOf d out room p svid some-modes few-modes)
+          ends-with modesOf start meets old base h out room e l m way p got clean asked (awaiting asked l) (asks-modes l (m .svids) done-now) refl refl
+          asked-shaped (omega arith) (omega arith) (modesAnswer modesOf svid) false (modes-given modesOf d h out room now p svid some-modes few-modes)
           answer-shaped _
-          (hears asked (modesAck svid) _ answer-shaped refl fits-answer (modes-last (awaiting asked l) m svid (modesOf svid) places done-now least))
-          is-last (answer-read modesOf d meets (modesAck svid) answer-shaped) (omega (arith, before-modes .0, before-modes .1, all-listed))
+          (hears asked (modesAck svid) _ answer-shaped refl fits-answer (modes-last (awaiting asked l) m now svid (modesOf svid) places done-now least))
+          is-last (answer-read modesOf d meets now (modesAck svid) answer-shaped) (omega (arith, before-modes .0, before-modes .1, all-listed))
           (λ some. omega (arith, complete .sum))
         where
           is-last : isLastHead (awaiting asked l) (modesAnswer modesOf svid .head) ≡ true
@@ -269,6 +275,6 @@ module _ (modesOf : ℕ → List ℕ) (start : System) (meets : Meets modesOf (s
     pub advances : Advances
     advances = go (clean .stage)
       where
-        go : Stage modesOf d meets old base out room l p → Advances
+        go : Stage modesOf d meets old base h out room l p → Advances
         go (listing open-now count) = listing-advances open-now count
         go (storing done-now) = storing-advances done-now

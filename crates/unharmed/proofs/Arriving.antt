@@ -9,6 +9,7 @@ use Rattle.laws.specs.Bounded.{Below}
 use Rattle.messages.specs.Layout.{messageBytes}
 use Rattle.messages.specs.Reading.{accepted, readOutcome}
 use Rattle.pages.proofs.Laws.{page-below}
+use Rattle.messages.specs.declared.edition.Edition.{Edition}
 use Rattle.dock.specs.Data.{listed}
 use Rattle.dock.specs.declared.Dock.{Dock}
 use Rattle.dock.specs.declared.Standing.{Standing}
@@ -31,7 +32,7 @@ use Rattle.unharmed.proofs.AtDock.{Inv, reached}
 use Rattle.unharmed.proofs.Confirming.{page-given}
 use Rattle.unharmed.proofs.Bytes.{reads}
 use Rattle.unharmed.proofs.Course.{FairAnswer, identityAck, pageAck, modesAck, modeAck, listNak, busyTo, Carried, nothing, underWay, sure, arrived, arrivedAs, lostAs}
-use Rattle.unharmed.proofs.Invariant.{WayFits, dockAt, messageOf, fateOf, Gives, Gave, Shaped, FateFits, HeldIs, systemOf, Reached}
+use Rattle.unharmed.proofs.Invariant.{WayFits, messageOf, fateOf, Gives, Gave, Shaped, FateFits, HeldIs, systemOf, Reached}
 use Rattle.unharmed.proofs.Landed.{lands}
 use Rattle.unharmed.proofs.Landing.{Lands}
 
@@ -45,8 +46,8 @@ module _ (modesOf : ℕ → List ℕ) (d : Dock) (meets : Meets modesOf d) where
   objects-fit (busyTo r) = λ k. omega arith
 
   -- what the dock hands over is read at the laptop as it was meant
-  pub answer-read : (a : FairAnswer) → Shaped modesOf d a → readOutcome (messageBytes (messageOf modesOf d a)) ≡ accepted (messageOf modesOf d a)
-  answer-read a shaped = reads (messageOf modesOf d a) shaped (objects-fit a)
+  pub answer-read : (e : Edition) (a : FairAnswer) → Shaped modesOf d a → readOutcome (messageBytes e (messageOf modesOf d a)) ≡ accepted e (messageOf modesOf d a)
+  answer-read e a shaped = reads e (messageOf modesOf d a) shaped (objects-fit a)
 
   pub gives-gave : (a : FairAnswer) (q : ℕ) → Gives modesOf d a q → Gave modesOf d a q
   gives-gave identityAck q g = g
@@ -56,10 +57,10 @@ module _ (modesOf : ℕ → List ℕ) (d : Dock) (meets : Meets modesOf d) where
   gives-gave listNak q g = g
   gives-gave (busyTo r) q g = tt
 
-  module _ (old : Holding) (l : Laptop) (m : Memory) (way : Way) (q : ℕ) (t : Standing) (z : ℕ) (a : FairAnswer) (v : Carried)
+  module _ (old : Holding) (e : Edition) (l : Laptop) (m : Memory) (way : Way) (q : ℕ) (t : Standing) (z : ℕ) (a : FairAnswer) (v : Carried)
       (i : Inv modesOf d old l m way q t v z) (shaped : Shaped modesOf d a) (gave : Gave modesOf d a q) (arrival : Arrival (listed d) t q z a v) where
     abbrev bytes : List ℕ
-    bytes = messageBytes (messageOf modesOf d a)
+    bytes = messageBytes e (messageOf modesOf d a)
 
     abbrev result : Result
     result = heard l m (readOutcome bytes)
@@ -69,8 +70,8 @@ module _ (modesOf : ℕ → List ℕ) (d : Dock) (meets : Meets modesOf d) where
 
     pub landed : LandsAt result
     landed =
-        subst LandsAt (ap (heard l m) (sym (answer-read a shaped)))
-        (lands modesOf d meets l m q t z v (i .formed) (i .candidate-is) a shaped gave arrival)
+        subst LandsAt (ap (heard l m) (sym (answer-read e a shaped)))
+        (lands modesOf d meets l m q t z v (i .formed) (i .candidate-is) e a shaped gave arrival)
 
     held-after : HeldIs modesOf d old (result .step .laptop) (result .after)
     held-after = go (isLastHead l (messageOf modesOf d a .head)) refl (i .held-is)
@@ -94,7 +95,7 @@ module _ (modesOf : ℕ → List ℕ) (d : Dock) (meets : Meets modesOf d) where
         go (inr e) = rw (landed .silent, e) (same (l .wait) (i .way-fits))
 
     abbrev unsure : Bool
-    unsure = isUnsure l (result .step .laptop) (dockAt modesOf d q t)
+    unsure = isUnsure l (result .step .laptop) (listed d) q
 
     arrived-inv : FateFits modesOf d t q (arrival .fate-then unsure) →
         Inv modesOf d old (result .step .laptop) (result .after) (wayAfter (effectOf (message bytes) l m []) way) q t (arrival .fate-then unsure)
@@ -109,10 +110,10 @@ module _ (modesOf : ℕ → List ℕ) (d : Dock) (meets : Meets modesOf d) where
           asks-fit = i .asks-fit;
         }
 
-  fate-arrived : (t : Standing) (b : Bool) → fateOnArrival t b ≡ fateOf modesOf d (arrivedAs (listed d) t b)
-  fate-arrived Ready b = refl
-  fate-arrived (Asking r) b = refl
-  fate-arrived (Sending x) b = refl
+  fate-arrived : (e : Edition) (t : Standing) (b : Bool) → fateOnArrival t b ≡ fateOf modesOf d e (arrivedAs (listed d) t b)
+  fate-arrived e Ready b = refl
+  fate-arrived e (Asking r) b = refl
+  fate-arrived e (Sending x) b = refl
 
   lost-arrived : (t : Standing) (b : Bool) (z : ℕ) → lostOnArrival t b z ≡ lostAs (listed d) t b z
   lost-arrived Ready true z = refl
@@ -126,41 +127,41 @@ module _ (modesOf : ℕ → List ℕ) (d : Dock) (meets : Meets modesOf d) where
   arrived-fits (Asking r) q b = tt
   arrived-fits (Sending x) q b = tt
 
-  module _ (old : Holding) (l : Laptop) (m : Memory) (way : Way) (q : ℕ) (t : Standing) (z : ℕ) (a : FairAnswer) where
+  module _ (old : Holding) (e : Edition) (l : Laptop) (m : Memory) (way : Way) (q : ℕ) (t : Standing) (z : ℕ) (a : FairAnswer) where
     -- before the dock has heard "sent", or after
     unfoldable pub timely : Inv modesOf d old l m way q t (underWay a) z → Arrival (listed d) t q z a (underWay a)
     timely i = on-time (listed d) t q z a (λ p e. page-given modesOf d old a q p (i .fate-fits .0) e) (i .fate-fits .2)
 
     pub timely-landed : (i : Inv modesOf d old l m way q t (underWay a) z) →
-        LandsAt old l m way q t z a (underWay a) i (i .fate-fits .1) (gives-gave a q (i .fate-fits .0)) (timely i) (heard l m (readOutcome (messageBytes (messageOf modesOf d a))))
-    timely-landed i = landed old l m way q t z a (underWay a) i (i .fate-fits .1) (gives-gave a q (i .fate-fits .0)) (timely i)
+        LandsAt old e l m way q t z a (underWay a) i (i .fate-fits .1) (gives-gave a q (i .fate-fits .0)) (timely i) (heard l m (readOutcome (messageBytes e (messageOf modesOf d a))))
+    timely-landed i = landed old e l m way q t z a (underWay a) i (i .fate-fits .1) (gives-gave a q (i .fate-fits .0)) (timely i)
 
     pub sure-landed : (i : Inv modesOf d old l m way q t (sure a) z) →
-        LandsAt old l m way q t z a (sure a) i (i .fate-fits .1) (i .fate-fits .0) (confirmed-first (listed d) t q z a) (heard l m (readOutcome (messageBytes (messageOf modesOf d a))))
-    sure-landed i = landed old l m way q t z a (sure a) i (i .fate-fits .1) (i .fate-fits .0) (confirmed-first (listed d) t q z a)
+        LandsAt old e l m way q t z a (sure a) i (i .fate-fits .1) (i .fate-fits .0) (confirmed-first (listed d) t q z a) (heard l m (readOutcome (messageBytes e (messageOf modesOf d a))))
+    sure-landed i = landed old e l m way q t z a (sure a) i (i .fate-fits .1) (i .fate-fits .0) (confirmed-first (listed d) t q z a)
 
-    timely-ok : Inv modesOf d old l m way q t (underWay a) z →
-        Reached modesOf d old (arrives (fateOf modesOf d (underWay a)) (systemOf modesOf d old l m way q t (underWay a) z))
+    timely-ok : (h : Edition) → Inv modesOf d old l m way q t (underWay a) z →
+        Reached modesOf d old (arrives (fateOf modesOf d e (underWay a)) (systemOf modesOf d old h e l m way q t (underWay a) z))
     unfolding timely on-time
-    timely-ok i =
-        let b : Bool = isUnsure l (heard l m (readOutcome (messageBytes (messageOf modesOf d a))) .step .laptop) (dockAt modesOf d q t) in
-        let o : Bool = opens l (heard l m (readOutcome (messageBytes (messageOf modesOf d a))) .step .laptop) in
-        reached modesOf d old _ q t (arrivedAs (listed d) t b) (fate-arrived t b) refl
+    timely-ok h i =
+        let b : Bool = isUnsure l (heard l m (readOutcome (messageBytes e (messageOf modesOf d a))) .step .laptop) (listed d) q in
+        let o : Bool = opens l (heard l m (readOutcome (messageBytes e (messageOf modesOf d a))) .step .laptop) in
+        reached modesOf d old _ e q t (arrivedAs (listed d) t b) (fate-arrived e t b) refl
         (subst
-        (λ (n : ℕ). Inv modesOf d old (heard l m (readOutcome (messageBytes (messageOf modesOf d a))) .step .laptop) (heard l m (readOutcome (messageBytes (messageOf modesOf d a))) .after) (wayAfter (effectOf (message (messageBytes (messageOf modesOf d a))) l m []) way) q t (arrivedAs (listed d) t b) (cond o 0 n))
+        (λ (n : ℕ). Inv modesOf d old (heard l m (readOutcome (messageBytes e (messageOf modesOf d a))) .step .laptop) (heard l m (readOutcome (messageBytes e (messageOf modesOf d a))) .after) (wayAfter (effectOf (message (messageBytes e (messageOf modesOf d a))) l m []) way) q t (arrivedAs (listed d) t b) (cond o 0 n))
         (sym (lost-arrived t b z))
-        (arrived-inv old l m way q t z a (underWay a) i (i .fate-fits .1) (gives-gave a q (i .fate-fits .0)) (timely i) (arrived-fits t q b)))
+        (arrived-inv old e l m way q t z a (underWay a) i (i .fate-fits .1) (gives-gave a q (i .fate-fits .0)) (timely i) (arrived-fits t q b)))
 
-    sure-ok : Inv modesOf d old l m way q t (sure a) z →
-        Reached modesOf d old (arrives (fateOf modesOf d (sure a)) (systemOf modesOf d old l m way q t (sure a) z))
+    sure-ok : (h : Edition) → Inv modesOf d old l m way q t (sure a) z →
+        Reached modesOf d old (arrives (fateOf modesOf d e (sure a)) (systemOf modesOf d old h e l m way q t (sure a) z))
     unfolding confirmed-first
-    sure-ok i =
-        reached modesOf d old _ q t nothing refl refl
-        (arrived-inv old l m way q t z a (sure a) i (i .fate-fits .1) (i .fate-fits .0) (confirmed-first (listed d) t q z a) tt)
+    sure-ok h i =
+        reached modesOf d old _ e q t nothing refl refl
+        (arrived-inv old e l m way q t z a (sure a) i (i .fate-fits .1) (i .fate-fits .0) (confirmed-first (listed d) t q z a) tt)
 
-  pub arrive-ok : (old : Holding) (l : Laptop) (m : Memory) (way : Way) (q : ℕ) (t : Standing) (v : Carried) (z : ℕ) → Inv modesOf d old l m way q t v z →
-      Reached modesOf d old (arrives (fateOf modesOf d v) (systemOf modesOf d old l m way q t v z))
-  arrive-ok old l m way q t nothing z i = reached modesOf d old _ q t nothing refl refl i
-  arrive-ok old l m way q t (underWay a) z i = timely-ok old l m way q t z a i
-  arrive-ok old l m way q t (sure a) z i = sure-ok old l m way q t z a i
-  arrive-ok old l m way q t (arrived b) z i = reached modesOf d old _ q t (arrived b) refl refl i
+  pub arrive-ok : (old : Holding) (h e : Edition) (l : Laptop) (m : Memory) (way : Way) (q : ℕ) (t : Standing) (v : Carried) (z : ℕ) → Inv modesOf d old l m way q t v z →
+      Reached modesOf d old (arrives (fateOf modesOf d e v) (systemOf modesOf d old h e l m way q t v z))
+  arrive-ok old h e l m way q t nothing z i = reached modesOf d old _ e q t nothing refl refl i
+  arrive-ok old h e l m way q t (underWay a) z i = timely-ok old e l m way q t z a h i
+  arrive-ok old h e l m way q t (sure a) z i = sure-ok old e l m way q t z a h i
+  arrive-ok old h e l m way q t (arrived b) z i = reached modesOf d old _ e q t (arrived b) refl refl i

@@ -8,12 +8,14 @@ use native.Mathlib.Omega.{arith}
 use lib.Dec.{eqb}
 use lib.ListN.{length, getD, take}
 use borrow.Author.Tests.{ne-eqb, le-leb}
-use Rattle.messages.specs.Reading.{accepted, readOutcome}
+use Rattle.messages.specs.Editions.{ours, lower}
+use Rattle.messages.specs.Reading.{Outcome, accepted, readOutcome}
 use Rattle.messages.specs.Table.{oneToFive}
+use Rattle.messages.specs.declared.edition.Edition.{Edition}
 use Rattle.messages.specs.declared.request.Request.{Request}
 use Rattle.pages.specs.Pages.{isLast}
-use Rattle.dock.specs.Data.{listed, withPage, withStanding}
-use Rattle.dock.specs.Dock.{Decision, refuses, accepts, sends, stepOf, asking, decideRequest, decideMessage, decidePolicyAnswer, moved}
+use Rattle.dock.specs.Data.{listed, withPage, withStanding, withEdition}
+use Rattle.dock.specs.Dock.{Decision, refuses, accepts, sends, stepOf, asking, decideRequest, spokenTo, decideMessage, decidePolicyAnswer, moved}
 use Rattle.dock.specs.declared.Dock.{Dock}
 use Rattle.dock.specs.declared.Policy.{Policy}
 use Rattle.dock.specs.declared.Standing.{Standing}
@@ -28,6 +30,7 @@ use Rattle.laptop.specs.declared.Wait.{Wait}
 use Rattle.laptop.specs.declared.Wait.the-variants.{Answer}
 use Rattle.laptop_laws.specs.Holding.{Holding}
 use Rattle.laptop_laws.specs.WellFormed.{WaitFits}
+use Rattle.link.specs.Ends.{heardAt, dockHears}
 use Rattle.link.specs.Joined.{Way, clear, request, Fate, gone, System}
 use Rattle.link.specs.Link.{handedOver, lostWith, reachedBy, reaches, isFair, brought, answeredBy, answers, losesRequest}
 use Rattle.unharmed.proofs.Bytes.{reads, HandsOver, hands-over}
@@ -43,28 +46,33 @@ unfoldable pub pageThen : Request → ℕ → ℕ
 pageThen r q = cond (eqb (r .command) 1) 0 q
 
 module _ (r : Request) (least : 1 ≤ r .command) (most : r .command ≤ 5) where
-  pub request-turns : (d : Dock) → decideMessage d (accepted (requestMessage r)) ≡ accepts (asking r d)
+  pub request-turns : (d : Dock) (e : Edition) → decideMessage d (accepted e (requestMessage r)) ≡ accepts (asking r (spokenTo e d))
   unfolding decideMessage decideRequest
-  request-turns d =
+  request-turns d e =
       let other : eqb (r .command) 6 ≡ false = ne-eqb (r .command) 6 (λ e. omega arith) in
       rw (other, one-to-five (r .command) least most)
 
 module _ (modesOf : ℕ → List ℕ) (d : Dock) where
-  pub asking-at : (r : Request) (q : ℕ) (t : Standing) → asking r (dockAt modesOf d q t) ≡ dockAt modesOf d (pageThen r q) (Asking r)
+  pub asking-at : (e : Edition) (e′ : Edition) (r : Request) (q : ℕ) (t : Standing) →
+      asking r (withEdition e′ (dockAt modesOf d e q t)) ≡ dockAt modesOf d e′ (pageThen r q) (Asking r)
   unfolding asking pageThen
-  asking-at r q t = go (eqb (r .command) 1)
+  asking-at e e′ r q t = go (eqb (r .command) 1)
     where
-      go : (b : Bool) →
-          withStanding (Asking r) (cond b (withPage 0 (dockAt modesOf d q t)) (dockAt modesOf d q t)) ≡ dockAt modesOf d (cond b 0 q) (Asking r)
+      now : Dock
+      now = withEdition e′ (dockAt modesOf d e q t)
+
+      go : (b : Bool) → withStanding (Asking r) (cond b (withPage 0 now) now) ≡ dockAt modesOf d e′ (cond b 0 q) (Asking r)
       go true = refl
       go false = refl
 
-  pub moved-at : (b : Bool) (q : ℕ) (t : Standing) → moved b (dockAt modesOf d q t) ≡ dockAt modesOf d (movesOn (listed d) b q) Ready
+  pub moved-at : (e : Edition) (b : Bool) (q : ℕ) (t : Standing) →
+      moved b (dockAt modesOf d e q t) ≡ dockAt modesOf d e (movesOn (listed d) b q) Ready
   unfolding moved movesOn
-  moved-at b q t = go (b && not (isLast (listed d) q))
+  moved-at e b q t = go (b && not (isLast (listed d) q))
     where
       go : (x : Bool) →
-          withStanding Ready (cond x (withPage (q + 1) (dockAt modesOf d q t)) (dockAt modesOf d q t)) ≡ dockAt modesOf d (cond x (q + 1) q) Ready
+          withStanding Ready (cond x (withPage (q + 1) (dockAt modesOf d e q t)) (dockAt modesOf d e q t)) ≡
+          dockAt modesOf d e (cond x (q + 1) q) Ready
       go true = refl
       go false = refl
 
@@ -117,38 +125,39 @@ module _ (modesOf : ℕ → List ℕ) (d : Dock) where
   sending-sure b q (sure a) f = let e : Sending b ≡ Ready = f .2 in let o : _≡_ {A = ℕ} 0 1 = cc in absurd (omega arith)
   sending-sure b q (arrived x) f = tt
 
-  pub lost-is : (v : Carried) (z : ℕ) → lostWith (fateOf modesOf d v) z ≡ lostThen v z
-  lost-is nothing z = refl
-  lost-is (underWay a) z = refl
-  lost-is (sure a) z = refl
-  lost-is (arrived true) z = refl
-  lost-is (arrived false) z = refl
+  pub lost-is : (e : Edition) (v : Carried) (z : ℕ) → lostWith (fateOf modesOf d e v) z ≡ lostThen v z
+  lost-is e nothing z = refl
+  lost-is e (underWay a) z = refl
+  lost-is e (sure a) z = refl
+  lost-is e (arrived true) z = refl
+  lost-is e (arrived false) z = refl
 
   module _ (old : Holding) where
     abbrev pub Inv : Laptop → Memory → Way → ℕ → Standing → Carried → ℕ → Type 0
     Inv l m way q t v z = Invariant modesOf d old l m way q t v z
 
     -- a state is reached if it stands as the invariant has it
-    pub reached : (s : System) (q : ℕ) (t : Standing) (v : Carried) → s .fate ≡ fateOf modesOf d v → s .dock ≡ dockAt modesOf d q t →
-        Inv (s .laptop) (s .memory) (s .way) q t v (s .lost) → Reached modesOf d old s
-    reached s q t v f e i =
+    pub reached : (s : System) (at : Edition) (q : ℕ) (t : Standing) (v : Carried) → s .fate ≡ fateOf modesOf d at v →
+        s .dock ≡ dockAt modesOf d at q t → Inv (s .laptop) (s .memory) (s .way) q t v (s .lost) → Reached modesOf d old s
+    reached s at q t v f e i =
         record {
+          edition-at = at;
           page-at = q;
           standing-at = t;
           carried = v;
           is =
-              ap₂ (λ (x : Fate) (y : Dock). record { laptop = s .laptop; memory = s .memory; way = s .way; fate = x; dock = y; lost = s .lost }) f e;
+              ap₂ (λ (x : Fate) (y : Dock). record { laptop = s .laptop; memory = s .memory; way = s .way; fate = x; dock = y; highest = s .highest; lost = s .lost }) f e;
           invariant = i;
         }
 
-    module _ (l : Laptop) (m : Memory) (way : Way) (q : ℕ) (t : Standing) (v : Carried) (z : ℕ) (i : Inv l m way q t v z) where
-      pub same-reached : Reached modesOf d old (systemOf modesOf d old l m way q t v z)
-      same-reached = reached _ q t v refl refl i
+    module _ (h e : Edition) (l : Laptop) (m : Memory) (way : Way) (q : ℕ) (t : Standing) (v : Carried) (z : ℕ) (i : Inv l m way q t v z) where
+      pub same-reached : Reached modesOf d old (systemOf modesOf d old h e l m way q t v z)
+      same-reached = reached _ e q t v refl refl i
 
       -- the request is lost
-      pub lose-request : Reached modesOf d old (losesRequest (systemOf modesOf d old l m way q t v z))
+      pub lose-request : Reached modesOf d old (losesRequest (systemOf modesOf d old h e l m way q t v z))
       lose-request =
-          reached _ q t v refl refl
+          reached _ e q t v refl refl
           (record {
             formed = i .formed;
             candidate-is = i .candidate-is;
@@ -166,8 +175,8 @@ module _ (modesOf : ℕ → List ℕ) (d : Dock) where
         record { formed = i .formed; candidate-is = c; held-is = i .held-is; way-fits = w; fate-fits = f; asks-fit = a }
 
     -- the request reaches the dock
-    module _ (l : Laptop) (m : Memory) (bytes : List ℕ) (q : ℕ) (t : Standing) (v : Carried) (z : ℕ) (i : Inv l m (request bytes) q t v z)
-        (out : List ℕ) where
+    module _ (h e : Edition) (l : Laptop) (m : Memory) (bytes : List ℕ) (q : ℕ) (t : Standing) (v : Carried) (z : ℕ)
+        (i : Inv l m (request bytes) q t v z) (out : List ℕ) where
       abbrev o : Out (l .wait) bytes
       o = i .way-fits
 
@@ -201,39 +210,47 @@ module _ (modesOf : ℕ → List ℕ) (d : Dock) where
       asked-is : Known (o .asked) (pageThen (o .asked) q) × (1 ≤ o .asked .command) × (l .candidate ≡ Open → pageThen (o .asked) q ≡ q)
       asked-is = known (o .asked) (o .few) awaits
 
-      pub request-read : readOutcome bytes ≡ accepted (requestMessage (o .asked))
-      request-read = ap readOutcome (o .bytes-are) ∙ reads (requestMessage (o .asked)) (o .shaped) (λ k. omega arith)
+      pub request-read : readOutcome bytes ≡ accepted (o .asked-at) (requestMessage (o .asked))
+      request-read = ap readOutcome (o .bytes-are) ∙ reads (o .asked-at) (requestMessage (o .asked)) (o .shaped) (λ k. omega arith)
 
-      pub request-decided : decideMessage (dockAt modesOf d q t) (readOutcome bytes) ≡ accepts (asking (o .asked) (dockAt modesOf d q t))
+      abbrev now : Dock
+      now = dockAt modesOf d e q t
+
+      -- it is answered at the lower of its edition and the dock's highest
+      abbrev answered-at : Edition
+      answered-at = lower (lower (o .asked-at) h) ours
+
+      pub request-decided : dockHears h now bytes ≡ accepts (asking (o .asked) (withEdition answered-at now))
       request-decided =
-          ap (decideMessage (dockAt modesOf d q t)) request-read ∙ request-turns (o .asked) (asked-is .1) (o .few) (dockAt modesOf d q t)
+          ap (λ (x : Outcome). decideMessage now (heardAt h x)) request-read ∙
+          request-turns (o .asked) (asked-is .1) (o .few) now (lower (o .asked-at) h)
 
-      accepted-dock : (x : Decision) (n : Dock) → x ≡ accepts n → stepOf (dockAt modesOf d q t) x (length out) .dock ≡ n
+      accepted-dock : (x : Decision) (n : Dock) → x ≡ accepts n → stepOf now x (length out) .dock ≡ n
       unfolding stepOf
-      accepted-dock x n e = rw e
+      accepted-dock x n is = rw is
 
-      accepted-fate : (x : Decision) (n : Dock) → x ≡ accepts n → handedOver (dockAt modesOf d q t) x out gone ≡ gone
+      accepted-fate : (x : Decision) (n : Dock) → x ≡ accepts n → handedOver now x out gone ≡ gone
       unfolding stepOf handedOver
-      accepted-fate x n e = rw e
+      accepted-fate x n is = rw is
 
       reach-request : NoSurePage v →
-          Reached modesOf d old
-          (reachedBy out (decideMessage (dockAt modesOf d q t) (readOutcome bytes)) (systemOf modesOf d old l m (request bytes) q t v z))
+          Reached modesOf d old (reachedBy out (dockHears h now bytes) (systemOf modesOf d old h e l m (request bytes) q t v z))
       reach-request n =
-          reached _ (pageThen (o .asked) q) (Asking (o .asked)) nothing (accepted-fate _ _ request-decided)
-          (accepted-dock _ _ request-decided ∙ asking-at (o .asked) q t)
-          (subst (λ (x : ℕ). Inv l m clear (pageThen (o .asked) q) (Asking (o .asked)) nothing x) (sym (lost-is v z))
+          reached _ answered-at (pageThen (o .asked) q) (Asking (o .asked)) nothing (accepted-fate _ _ request-decided)
+          (accepted-dock _ _ request-decided ∙ asking-at e answered-at (o .asked) q t)
+          (subst (λ (x : ℕ). Inv l m clear (pageThen (o .asked) q) (Asking (o .asked)) nothing x) (sym (lost-is e v z))
           (moves l m (request bytes) clear q (pageThen (o .asked) q) t (Asking (o .asked)) v nothing z (lostThen v z) i
           (candidate-replaced (l .gathered) (l .stored) (l .pages) m (l .candidate) t q v z (i .candidate-is) (Asking (o .asked))
           (pageThen (o .asked) q) nothing tt n (asked-is .2)) tt tt (asked-is .0)))
 
-    pub reach-ok : (l : Laptop) (m : Memory) (way : Way) (q : ℕ) (t : Standing) (v : Carried) (z : ℕ) → Inv l m way q t v z → (out : List ℕ) →
-        Reached modesOf d old (reaches out way (fateOf modesOf d v) (systemOf modesOf d old l m way q t v z))
-    reach-ok l m clear q t v z i out = same-reached l m clear q t v z i
-    reach-ok l m (request bytes) q t nothing z i out = reach-request l m bytes q t nothing z i out tt
-    reach-ok l m (request bytes) q t (underWay a) z i out = reach-request l m bytes q t (underWay a) z i out tt
-    reach-ok l m (request bytes) q t (sure a) z i out = same-reached l m (request bytes) q t (sure a) z i
-    reach-ok l m (request bytes) q t (arrived b) z i out = reach-request l m bytes q t (arrived b) z i out tt
+    pub reach-ok : (h e : Edition) (l : Laptop) (m : Memory) (way : Way) (q : ℕ) (t : Standing) (v : Carried) (z : ℕ) → Inv l m way q t v z →
+        (out : List ℕ) →
+        Reached modesOf d old (reaches out way (fateOf modesOf d e v) (systemOf modesOf d old h e l m way q t v z))
+    reach-ok h e l m clear q t v z i out = same-reached h e l m clear q t v z i
+    reach-ok h e l m (request bytes) q t nothing z i out = reach-request h e l m bytes q t nothing z i out tt
+    reach-ok h e l m (request bytes) q t (underWay a) z i out = reach-request h e l m bytes q t (underWay a) z i out tt
+    reach-ok h e l m (request bytes) q t (sure a) z i out = same-reached h e l m (request bytes) q t (sure a) z i
+    reach-ok h e l m (request bytes) q t (arrived b) z i out = reach-request h e l m bytes q t (arrived b) z i out tt
 
 module _ (modesOf : ℕ → List ℕ) (d : Dock) (old : Holding) where
   candidate-answered : (c : Candidate) (size : Size) (stored pages : ℕ) (m : Memory) (r : Request) (q : ℕ) (v : Carried) (z : ℕ) (a : FairAnswer) →
@@ -251,41 +268,46 @@ module _ (modesOf : ℕ → List ℕ) (d : Dock) (old : Holding) where
   unfolding stepOf handedOver
   refused-fate x y number out fate e = rw e
 
-  module _ (l : Laptop) (m : Memory) (way : Way) (q : ℕ) (r : Request) (v : Carried) (z : ℕ) (i : Inv modesOf d old l m way q (Asking r) v z)
-      (out : List ℕ) where
-    abbrev Answered : Decision → Type 0
-    Answered x = Reached modesOf d old (answeredBy out x (systemOf modesOf d old l m way q (Asking r) v z))
+  module _ (h e : Edition) (l : Laptop) (m : Memory) (way : Way) (q : ℕ) (r : Request) (v : Carried) (z : ℕ)
+      (i : Inv modesOf d old l m way q (Asking r) v z) (out : List ℕ) where
+    abbrev before : System
+    before = systemOf modesOf d old h e l m way q (Asking r) v z
 
-    handed : (a : FairAnswer) → Gives modesOf d a q → Answered (sends (messageOf modesOf d a) (dockAt modesOf d q (Sending (isPage a))))
-    handed a g =
-        go (hands-over (dockAt modesOf d q (Asking r)) (dockAt modesOf d q (Sending (isPage a))) (messageOf modesOf d a) out (fateOf modesOf d v))
+    abbrev asked : Dock
+    asked = dockAt modesOf d e q (Asking r)
+
+    abbrev Answered : Decision → Type 0
+    Answered x = Reached modesOf d old (answeredBy out x before)
+
+    handed : (a : FairAnswer) → Gives modesOf d a q → Answered (sends (messageOf modesOf d a) (dockAt modesOf d e q (Sending (isPage a))))
+    handed a g = go (hands-over asked after (messageOf modesOf d a) out (fateOf modesOf d e v))
       where
-        go : HandsOver (dockAt modesOf d q (Asking r)) (dockAt modesOf d q (Sending (isPage a))) (messageOf modesOf d a) out (fateOf modesOf d v) →
-            Answered (sends (messageOf modesOf d a) (dockAt modesOf d q (Sending (isPage a))))
+        after : Dock
+        after = dockAt modesOf d e q (Sending (isPage a))
+
+        go : HandsOver asked after (messageOf modesOf d a) out (fateOf modesOf d e v) → Answered (sends (messageOf modesOf d a) after)
         go (inl h) =
-            reached modesOf d old _ q (Sending (isPage a)) (underWay a) (h .0) (h .1)
+            reached modesOf d old _ e q (Sending (isPage a)) (underWay a) (h .0) (h .1)
             (moves modesOf d old l m way way q q (Asking r) (Sending (isPage a)) v (underWay a) z z i
             (candidate-answered (l .candidate) (l .gathered) (l .stored) (l .pages) m r q v z a (i .candidate-is)
             (asking-sure modesOf d r q v (i .fate-fits)) (Sending (isPage a))) (i .way-fits) (g, h .2, inl refl) tt)
-        go (inr h) = reached modesOf d old _ q (Asking r) v (h .0) (h .1) i
+        go (inr h) = reached modesOf d old _ e q (Asking r) v (h .0) (h .1) i
 
-    offered : (x : Decision) → Offers modesOf d q x → Answered x
-    offered x (offers a g e) = subst Answered (sym e) (handed a g)
-    offered x (declines number e) =
-        reached modesOf d old _ q (Asking r) v (refused-fate (dockAt modesOf d q (Asking r)) x number out (fateOf modesOf d v) e)
-        (refused-dock (dockAt modesOf d q (Asking r)) x number (length out) e) i
+    offered : (x : Decision) → Offers modesOf d e q x → Answered x
+    offered x (offers a g is) = subst Answered (sym is) (handed a g)
+    offered x (declines number is) =
+        reached modesOf d old _ e q (Asking r) v (refused-fate asked x number out (fateOf modesOf d e v) is)
+        (refused-dock asked x number (length out) is) i
 
     policy-answered : (policy : Policy) (b : Bool) → isFair policy r (listed d) ≡ b →
-        Reached modesOf d old
-        (cond b
-        (answeredBy out (decidePolicyAnswer (dockAt modesOf d q (Asking r)) (Asking r) policy r (brought modesOf policy r))
-        (systemOf modesOf d old l m way q (Asking r) v z)) (systemOf modesOf d old l m way q (Asking r) v z))
+        Reached modesOf d old (cond b (answeredBy out (decidePolicyAnswer asked (Asking r) policy r (brought modesOf policy r)) before) before)
     unfolding asked-by
-    policy-answered policy true e = offered _ (fair-offered modesOf d q policy r (i .asks-fit) e)
-    policy-answered policy false e = same-reached modesOf d old l m way q (Asking r) v z i
+    policy-answered policy true f = offered _ (fair-offered modesOf d e q policy r (i .asks-fit) f)
+    policy-answered policy false f = same-reached modesOf d old h e l m way q (Asking r) v z i
 
-  pub answer-ok : (l : Laptop) (m : Memory) (way : Way) (q : ℕ) (t : Standing) (v : Carried) (z : ℕ) → Inv modesOf d old l m way q t v z →
-      (policy : Policy) (out : List ℕ) → Reached modesOf d old (answers modesOf policy out t (systemOf modesOf d old l m way q t v z))
-  answer-ok l m way q Ready v z i policy out = same-reached modesOf d old l m way q Ready v z i
-  answer-ok l m way q (Asking r) v z i policy out = policy-answered l m way q r v z i out policy (isFair policy r (listed d)) refl
-  answer-ok l m way q (Sending b) v z i policy out = same-reached modesOf d old l m way q (Sending b) v z i
+  pub answer-ok : (h e : Edition) (l : Laptop) (m : Memory) (way : Way) (q : ℕ) (t : Standing) (v : Carried) (z : ℕ) →
+      Inv modesOf d old l m way q t v z → (policy : Policy) (out : List ℕ) →
+      Reached modesOf d old (answers modesOf policy out t (systemOf modesOf d old h e l m way q t v z))
+  answer-ok h e l m way q Ready v z i policy out = same-reached modesOf d old h e l m way q Ready v z i
+  answer-ok h e l m way q (Asking r) v z i policy out = policy-answered h e l m way q r v z i out policy (isFair policy r (listed d)) refl
+  answer-ok h e l m way q (Sending b) v z i policy out = same-reached modesOf d old h e l m way q (Sending b) v z i

@@ -12,6 +12,7 @@ use Rattle.messages.specs.Layout.{messageBytes}
 use Rattle.messages.specs.Requests.{svidsCommand, modesCommand, enterCommand, exitCommand}
 use Rattle.messages.specs.Table.{pdSid}
 use Rattle.messages.specs.declared.request.Request.{Request}
+use Rattle.messages.specs.declared.edition.Edition.{Edition}
 use Rattle.dock.specs.declared.Dock.{Dock}
 use Rattle.dock.specs.declared.Standing.{Standing}
 use Rattle.laptop.specs.Calls.{Decision, refuses, accepts, sends, stepOf, unless, isAwaiting}
@@ -138,9 +139,9 @@ module _ (modesOf : ℕ → List ℕ) (d : Dock) (old : Holding) where
         go : SendsOut l l′ m (requestMessage r) out way (ap isAwaiting w) → After (sends (requestMessage r) l′)
         go (inl s) f =
             subst (λ (y : Way). Inv modesOf d old (stepOf l (sends (requestMessage r) l′) (length out) .laptop) m y q t v z) (sym (s .1))
-            (subst (λ (y : Laptop). WellFormed y m → Inv modesOf d old y m (request (messageBytes (requestMessage r))) q t v z) (sym (s .0))
-            (λ g. stands l′ (request (messageBytes (requestMessage r))) h c
-            (record { asked = r; awaited = w; bytes-are = refl; shaped = s .2; few = few }) g) f)
+            (subst (λ (y : Laptop). WellFormed y m → Inv modesOf d old y m (request (messageBytes (l′ .edition) (requestMessage r))) q t v z) (sym (s .0))
+            (λ g. stands l′ (request (messageBytes (l′ .edition) (requestMessage r))) h c
+            (record { asked = r; awaited = w; asked-at = l′ .edition; bytes-are = refl; shaped = s .2; few = few }) g) f)
         go (inr s) f = stays-after (sends (requestMessage r) l′) (s .0) (s .1) f
 
     -- nothing is awaited any more
@@ -195,7 +196,7 @@ module _ (l : Laptop) (m : Memory) (f : WellFormed l m) where
   pub error-is : Decides l protocolError (decideError l (l .wait))
   error-is = error-decides l protocolError m (l .wait) (f .wait-fits)
 
-module _ (modesOf : ℕ → List ℕ) (d : Dock) (old : Holding) (l : Laptop) (m : Memory) (way : Way) (q : ℕ) (t : Standing) (v : Carried) (z : ℕ)
+module _ (modesOf : ℕ → List ℕ) (d : Dock) (old : Holding) (h e : Edition) (l : Laptop) (m : Memory) (way : Way) (q : ℕ) (t : Standing) (v : Carried) (z : ℕ)
     (i : Inv modesOf d old l m way q t v z) (out : List ℕ) where
   decided-ok : (c : Call) (x : Decision) → Decides l c x → WellFormed (stepOf l x (length out) .laptop) m →
       Reached modesOf d old
@@ -203,15 +204,16 @@ module _ (modesOf : ℕ → List ℕ) (d : Dock) (old : Holding) (l : Laptop) (m
         laptop = stepOf l x (length out) .laptop;
         memory = m;
         way = wayAfter (decided l m out x) way;
-        fate = fateOf modesOf d v;
-        dock = dockAt modesOf d q t;
+        fate = fateOf modesOf d e v;
+        dock = dockAt modesOf d e q t;
+        highest = h;
         lost = z;
       })
-  decided-ok c x e f = reached modesOf d old _ q t v refl refl (decides-after modesOf d old l m way q t v z i out c x e f)
+  decided-ok c x is f = reached modesOf d old _ e q t v refl refl (decides-after modesOf d old l m way q t v z i out c x is f)
 
-  pub call-ok : (c : Call) → Reached modesOf d old (called c out (systemOf modesOf d old l m way q t v z))
+  pub call-ok : (c : Call) → Reached modesOf d old (called c out (systemOf modesOf d old h e l m way q t v z))
   unfolding called
-  call-ok (message bytes) = reached modesOf d old _ q t v refl refl i
+  call-ok (message bytes) = reached modesOf d old _ e q t v refl refl i
   call-ok next = decided-ok next _ (next-is l m (i .formed)) (keeps next l m out (i .formed))
   call-ok startOver = decided-ok startOver _ (start-over-is l m (i .formed)) (keeps startOver l m out (i .formed))
   call-ok drop = decided-ok drop _ (drop-is l m (i .formed)) (keeps drop l m out (i .formed))

@@ -1,8 +1,8 @@
 -- Messages on the link are bytes: what one end hands over, the other reads.
 use mathlib.Core.Logic.{_⊎_, inl, inr}
-use mathlib.Core.Path.{_≡_, refl, ap}
+use mathlib.Core.Path.{_≡_, refl, ap, sym, _∙_}
 use mathlib.Core.Bool.{Bool, true, false}
-use mathlib.Core.List.{List}
+use mathlib.Core.List.{List, _++_}
 use Prim.Native.Nat.{ℕ, _+_, _^_, _<_, _≤_}
 use native.Mathlib.Omega.{arith}
 use lib.Dec.{leb, ltb, eqb}
@@ -13,11 +13,12 @@ use Rattle.laws.specs.Bounded.{Below}
 use Rattle.laws.specs.Rows.{every}
 use Rattle.laws.proofs.Lines.{and-left, and-right, hold-at}
 use Rattle.laws.proofs.Rows.{at-row}
-use Rattle.messages.specs.Layout.{Message, messageBytes}
+use Rattle.messages.specs.Layout.{Message, messageBytes, messageLength}
 use Rattle.messages.specs.Reading.{accepted, readOutcome}
 use Rattle.messages.specs.Table.{rowOf, fitLines, fits, shape}
 use Rattle.messages.specs.Writing.{wellShaped, writeRefusal, written}
 use Rattle.messages.specs.declared.Head.{Head}
+use Rattle.messages.specs.declared.edition.Edition.{Edition}
 use Rattle.messages.proofs.Laws.{write-accepted}
 use Rattle.messages.proofs.RoundTrip.{read-bytes}
 use Rattle.messages.proofs.Stores.{length-message}
@@ -50,18 +51,21 @@ shape-svid h count good =
     omega arith
 
 -- a message that was written is read as it was
-pub reads : (m : Message) → wellShaped m ≡ true → Below (2 ^ 32) (m .objects) → readOutcome (messageBytes m) ≡ accepted m
+pub reads : (e : Edition) (m : Message) → wellShaped m ≡ true → Below (2 ^ 32) (m .objects) → readOutcome (messageBytes e m) ≡ accepted e m
 unfolding wellShaped
-reads m good fit =
-    read-bytes m (record { svid-fits = shape-svid (m .head) (length (m .objects) + 1) good; objects-fit = fit }) good
+reads e m good fit =
+    read-bytes e m (record { svid-fits = shape-svid (m .head) (length (m .objects) + 1) good; objects-fit = fit }) good
 
-pub some-bytes : (m : Message) → ltb 0 (length (messageBytes m)) ≡ true
-some-bytes m = lt-ltb 0 (length (messageBytes m)) (omega (arith, length-message m))
+pub some-bytes : (m : Message) → ltb 0 (messageLength m) ≡ true
+some-bytes m = lt-ltb 0 (messageLength m) (omega arith)
 
 module _ (m : Message) (out : List ℕ) (e : eqb (writeRefusal m (length out)) 0 ≡ true) where
-  bytes-out : take (length (messageBytes m)) (written m out) ≡ messageBytes m
+  bytes-out : (at : Edition) → take (messageLength m) (written at m out) ≡ messageBytes at m
   unfolding written
-  bytes-out = rw e (take-append-seam (messageBytes m) (drop (length (messageBytes m)) out))
+  bytes-out at =
+      rw e
+      (ap (λ (n : ℕ). take n (messageBytes at m ++ drop (messageLength m) out)) (sym (length-message at m)) ∙
+      take-append-seam (messageBytes at m) (drop (messageLength m) out))
 
   shaped-out : wellShaped m ≡ true
   shaped-out = write-accepted m (length out) .0 (eqb-true (writeRefusal m (length out)) 0 e) .0
@@ -70,15 +74,15 @@ module _ (m : Message) (out : List ℕ) (e : eqb (writeRefusal m (length out)) 0
 module _ (d after : Dock) (m : Message) (out : List ℕ) (fate : Fate) where
   abbrev pub HandsOver : Type 0
   HandsOver =
-      ((handedOver d (sends m after) out fate ≡ coming (messageBytes m)) × (stepOf d (sends m after) (length out) .dock ≡ after) ×
+      ((handedOver d (sends m after) out fate ≡ coming (messageBytes (after .edition) m)) × (stepOf d (sends m after) (length out) .dock ≡ after) ×
       (wellShaped m ≡ true)) ⊎
       ((handedOver d (sends m after) out fate ≡ fate) × (stepOf d (sends m after) (length out) .dock ≡ d))
 
   -- where it can be written it goes out
   pub handed-over : eqb (writeRefusal m (length out)) 0 ≡ true →
-      (handedOver d (sends m after) out fate ≡ coming (messageBytes m)) × (stepOf d (sends m after) (length out) .dock ≡ after)
+      (handedOver d (sends m after) out fate ≡ coming (messageBytes (after .edition) m)) × (stepOf d (sends m after) (length out) .dock ≡ after)
   unfolding handedOver stepOf bufferOf
-  handed-over e = (rw (e, some-bytes m) (ap coming (bytes-out m out e)), rw e)
+  handed-over e = (rw (e, some-bytes m) (ap coming (bytes-out m out e (after .edition))), rw e)
 
   pub hands-over : HandsOver
   unfolding handedOver stepOf bufferOf
@@ -93,15 +97,15 @@ module _ (l after : Laptop) (memory : Memory) (m : Message) (out : List ℕ) (wa
   abbrev pub SendsOut : Type 0
   SendsOut =
       ((Laptop·stepOf l (Laptop·sends m after) (length out) .laptop ≡ after) ×
-      (wayAfter (decided l memory out (Laptop·sends m after)) way ≡ request (messageBytes m)) × (wellShaped m ≡ true)) ⊎
+      (wayAfter (decided l memory out (Laptop·sends m after)) way ≡ request (messageBytes (after .edition) m)) × (wellShaped m ≡ true)) ⊎
       ((Laptop·stepOf l (Laptop·sends m after) (length out) .laptop ≡ l) × (Laptop·stepOf l (Laptop·sends m after) (length out) .length ≡ 0))
 
   -- where it can be written it goes out
   pub sent-out : eqb (writeRefusal m (length out)) 0 ≡ true →
       (Laptop·stepOf l (Laptop·sends m after) (length out) .laptop ≡ after) ×
-      (wayAfter (decided l memory out (Laptop·sends m after)) way ≡ request (messageBytes m))
+      (wayAfter (decided l memory out (Laptop·sends m after)) way ≡ request (messageBytes (after .edition) m))
   unfolding Laptop·stepOf Laptop·bufferOf wayAfter
-  sent-out e = (rw e, rw (e, awaits, some-bytes m) (ap request (bytes-out m out e)))
+  sent-out e = (rw e, rw (e, awaits, some-bytes m) (ap request (bytes-out m out e (after .edition))))
 
   pub sends-out : SendsOut
   unfolding Laptop·stepOf Laptop·bufferOf wayAfter

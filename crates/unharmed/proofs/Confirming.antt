@@ -5,6 +5,7 @@ use mathlib.Core.Bool.{Bool, true, false}
 use mathlib.Core.List.{List}
 use Prim.Native.Nat.{ℕ}
 use native.Mathlib.Omega.{arith}
+use Rattle.messages.specs.declared.edition.Edition.{Edition}
 use Rattle.dock.specs.Data.{listed}
 use Rattle.dock.specs.Dock.{stepOf, decideSent, decideFailed}
 use Rattle.dock.specs.declared.Dock.{Dock}
@@ -31,15 +32,15 @@ module _ (modesOf : ℕ → List ℕ) (d : Dock) (old : Holding) where
       (c .0, passes (listed d) (c .1) t nothing tt tt (λ e. let o : _≡_ {A = ℕ} 0 1 = cc in omega arith))
   candidate-lost Done size stored pages m t q z a c = complete-same modesOf d size stored pages m c nothing t tt
 
-  pub lose-ok : (l : Laptop) (m : Memory) (way : Way) (q : ℕ) (t : Standing) (v : Carried) (z : ℕ) → Inv modesOf d old l m way q t v z →
-      Reached modesOf d old (losesAnswer (fateOf modesOf d v) (systemOf modesOf d old l m way q t v z))
-  lose-ok l m way q t nothing z i = same-reached modesOf d old l m way q t nothing z i
-  lose-ok l m way q t (underWay a) z i =
-      reached modesOf d old _ q t nothing refl refl
+  pub lose-ok : (h e : Edition) (l : Laptop) (m : Memory) (way : Way) (q : ℕ) (t : Standing) (v : Carried) (z : ℕ) → Inv modesOf d old l m way q t v z →
+      Reached modesOf d old (losesAnswer (fateOf modesOf d e v) (systemOf modesOf d old h e l m way q t v z))
+  lose-ok h e l m way q t nothing z i = same-reached modesOf d old h e l m way q t nothing z i
+  lose-ok h e l m way q t (underWay a) z i =
+      reached modesOf d old _ e q t nothing refl refl
       (moves modesOf d old l m way way q q t t (underWay a) nothing z z i
       (candidate-lost (l .candidate) (l .gathered) (l .stored) (l .pages) m t q z a (i .candidate-is)) (i .way-fits) tt (i .asks-fit))
-  lose-ok l m way q t (sure a) z i = same-reached modesOf d old l m way q t (sure a) z i
-  lose-ok l m way q t (arrived b) z i = same-reached modesOf d old l m way q t (arrived b) z i
+  lose-ok h e l m way q t (sure a) z i = same-reached modesOf d old h e l m way q t (sure a) z i
+  lose-ok h e l m way q t (arrived b) z i = same-reached modesOf d old h e l m way q t (arrived b) z i
 
   -- the dock hears "sent"
   gave : (a : FairAnswer) (q : ℕ) → Gives modesOf d a q → Gave modesOf d a (movesOn (listed d) (isPage a) q)
@@ -74,13 +75,17 @@ module _ (modesOf : ℕ → List ℕ) (d : Dock) (old : Holding) where
         settled = tt;
       }
 
-  pub sent-dock : (q : ℕ) (b : Bool) → stepOf (dockAt modesOf d q (Sending b)) (decideSent (dockAt modesOf d q (Sending b)) (Sending b)) 0 .dock ≡ dockAt modesOf d (movesOn (listed d) b q) Ready
+  pub sent-dock : (e : Edition) (q : ℕ) (b : Bool) →
+      stepOf (dockAt modesOf d e q (Sending b)) (decideSent (dockAt modesOf d e q (Sending b)) (Sending b)) 0 .dock ≡
+      dockAt modesOf d e (movesOn (listed d) b q) Ready
   unfolding stepOf decideSent
-  sent-dock q b = moved-at modesOf d b q (Sending b)
+  sent-dock e q b = moved-at modesOf d e b q (Sending b)
 
-  failed-dock : (q : ℕ) (b : Bool) → stepOf (dockAt modesOf d q (Sending b)) (decideFailed (dockAt modesOf d q (Sending b)) (Sending b)) 0 .dock ≡ dockAt modesOf d q Ready
+  failed-dock : (e : Edition) (q : ℕ) (b : Bool) →
+      stepOf (dockAt modesOf d e q (Sending b)) (decideFailed (dockAt modesOf d e q (Sending b)) (Sending b)) 0 .dock ≡
+      dockAt modesOf d e q Ready
   unfolding stepOf decideFailed
-  failed-dock q b = moved-at modesOf d false q (Sending b) ∙ ap (λ (n : ℕ). dockAt modesOf d n Ready) (moves-other (listed d) q)
+  failed-dock e q b = moved-at modesOf d e false q (Sending b) ∙ ap (λ (n : ℕ). dockAt modesOf d e n Ready) (moves-other (listed d) q)
 
   same-sending : (b c : Bool) → (Sending b ≡ Sending c) ⊎ (Sending b ≡ Ready) → b ≡ c
   same-sending true true e = refl
@@ -90,21 +95,21 @@ module _ (modesOf : ℕ → List ℕ) (d : Dock) (old : Holding) where
   same-sending true false (inr e) = cc
   same-sending false true (inr e) = cc
 
-  pub sent-ok : (l : Laptop) (m : Memory) (way : Way) (q : ℕ) (t : Standing) (v : Carried) (z : ℕ) → Inv modesOf d old l m way q t v z →
-      Reached modesOf d old (hearsSent t (fateOf modesOf d v) (systemOf modesOf d old l m way q t v z))
-  sent-ok l m way q Ready v z i = same-reached modesOf d old l m way q Ready v z i
-  sent-ok l m way q (Asking r) v z i = same-reached modesOf d old l m way q (Asking r) v z i
-  sent-ok l m way q (Sending b) nothing z i = same-reached modesOf d old l m way q (Sending b) nothing z i
-  sent-ok l m way q (Sending b) (sure a) z i = same-reached modesOf d old l m way q (Sending b) (sure a) z i
-  sent-ok l m way q (Sending b) (underWay a) z i =
+  pub sent-ok : (h e : Edition) (l : Laptop) (m : Memory) (way : Way) (q : ℕ) (t : Standing) (v : Carried) (z : ℕ) → Inv modesOf d old l m way q t v z →
+      Reached modesOf d old (hearsSent t (fateOf modesOf d e v) (systemOf modesOf d old h e l m way q t v z))
+  sent-ok h e l m way q Ready v z i = same-reached modesOf d old h e l m way q Ready v z i
+  sent-ok h e l m way q (Asking r) v z i = same-reached modesOf d old h e l m way q (Asking r) v z i
+  sent-ok h e l m way q (Sending b) nothing z i = same-reached modesOf d old h e l m way q (Sending b) nothing z i
+  sent-ok h e l m way q (Sending b) (sure a) z i = same-reached modesOf d old h e l m way q (Sending b) (sure a) z i
+  sent-ok h e l m way q (Sending b) (underWay a) z i =
       let same : b ≡ isPage a = same-sending b (isPage a) (i .fate-fits .2) in
-      reached modesOf d old _ (movesOn (listed d) (isPage a) q) Ready (sure a) refl
-      (sent-dock q b ∙ ap (λ (x : Bool). dockAt modesOf d (movesOn (listed d) x q) Ready) same)
+      reached modesOf d old _ e (movesOn (listed d) (isPage a) q) Ready (sure a) refl
+      (sent-dock e q b ∙ ap (λ (x : Bool). dockAt modesOf d e (movesOn (listed d) x q) Ready) same)
       (moves modesOf d old l m way way q (movesOn (listed d) (isPage a) q) (Sending b) Ready (underWay a) (sure a) z z i
       (candidate-sure (l .candidate) (l .gathered) (l .stored) (l .pages) m (Sending b) q z a (i .fate-fits .0) (i .candidate-is)) (i .way-fits)
       (gave a q (i .fate-fits .0), i .fate-fits .1, refl) tt)
-  sent-ok l m way q (Sending b) (arrived x) z i =
-      reached modesOf d old _ (movesOn (listed d) b q) Ready nothing refl (sent-dock q b)
+  sent-ok h e l m way q (Sending b) (arrived x) z i =
+      reached modesOf d old _ e (movesOn (listed d) b q) Ready nothing refl (sent-dock e q b)
       (moves modesOf d old l m way way q (movesOn (listed d) b q) (Sending b) Ready (arrived x) nothing z z i
       (candidate-sent (l .candidate) (l .gathered) (l .stored) (l .pages) m b q z x (i .candidate-is)) (i .way-fits) tt tt)
 
@@ -115,11 +120,11 @@ module _ (modesOf : ℕ → List ℕ) (d : Dock) (old : Holding) where
   failedAs (sure a) = sure a
   failedAs (arrived b) = nothing
 
-  failed-fate : (v : Carried) → fateOnFailure (fateOf modesOf d v) ≡ fateOf modesOf d (failedAs v)
-  failed-fate nothing = refl
-  failed-fate (underWay a) = refl
-  failed-fate (sure a) = refl
-  failed-fate (arrived b) = refl
+  failed-fate : (e : Edition) (v : Carried) → fateOnFailure (fateOf modesOf d e v) ≡ fateOf modesOf d e (failedAs v)
+  failed-fate e nothing = refl
+  failed-fate e (underWay a) = refl
+  failed-fate e (sure a) = refl
+  failed-fate e (arrived b) = refl
 
   failed-quiet : (v : Carried) → NoSurePage v → Quiet Ready (failedAs v)
   failed-quiet nothing n = tt
@@ -133,14 +138,14 @@ module _ (modesOf : ℕ → List ℕ) (d : Dock) (old : Holding) where
   failed-fits b q (sure a) f = (f .0, f .1, refl)
   failed-fits b q (arrived x) f = tt
 
-  pub failed-ok : (l : Laptop) (m : Memory) (way : Way) (q : ℕ) (t : Standing) (v : Carried) (z : ℕ) → Inv modesOf d old l m way q t v z →
-      Reached modesOf d old (hearsFailed t (systemOf modesOf d old l m way q t v z))
-  failed-ok l m way q Ready v z i = same-reached modesOf d old l m way q Ready v z i
-  failed-ok l m way q (Asking r) v z i = same-reached modesOf d old l m way q (Asking r) v z i
-  failed-ok l m way q (Sending b) v z i =
+  pub failed-ok : (h e : Edition) (l : Laptop) (m : Memory) (way : Way) (q : ℕ) (t : Standing) (v : Carried) (z : ℕ) → Inv modesOf d old l m way q t v z →
+      Reached modesOf d old (hearsFailed t (systemOf modesOf d old h e l m way q t v z))
+  failed-ok h e l m way q Ready v z i = same-reached modesOf d old h e l m way q Ready v z i
+  failed-ok h e l m way q (Asking r) v z i = same-reached modesOf d old h e l m way q (Asking r) v z i
+  failed-ok h e l m way q (Sending b) v z i =
       let n = sending-sure modesOf d b q v (i .fate-fits) in
-      reached modesOf d old _ q Ready (failedAs v) (failed-fate v) (failed-dock q b)
-      (subst (λ (x : ℕ). Inv modesOf d old l m way q Ready (failedAs v) x) (sym (lost-is modesOf d v z))
+      reached modesOf d old _ e q Ready (failedAs v) (failed-fate e v) (failed-dock e q b)
+      (subst (λ (x : ℕ). Inv modesOf d old l m way q Ready (failedAs v) x) (sym (lost-is modesOf d e v z))
       (moves modesOf d old l m way way q q (Sending b) Ready v (failedAs v) z (lostThen v z) i
       (candidate-replaced modesOf d (l .gathered) (l .stored) (l .pages) m (l .candidate) (Sending b) q v z (i .candidate-is) Ready q (failedAs v)
-      (failed-quiet v n) n (λ e. refl)) (i .way-fits) (failed-fits b q v (i .fate-fits)) tt))
+      (failed-quiet v n) n (λ o. refl)) (i .way-fits) (failed-fits b q v (i .fate-fits)) tt))

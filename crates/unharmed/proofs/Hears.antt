@@ -10,6 +10,7 @@ use lib.ListN.{length, take, set, replicate}
 use lib.Seq.{sets}
 use borrow.Author.Tests.{ne-eqb, lt-ltb, le-ltb, le-leb, lt-leb}
 use Rattle.laws.specs.Padded.{padded}
+use Rattle.messages.specs.Editions.{ours, lower}
 use Rattle.messages.specs.Layout.{ack, nak, busy, Message}
 use Rattle.messages.specs.Reading.{accepted}
 use Rattle.messages.specs.Requests.{svidsCommand, modesCommand}
@@ -18,6 +19,7 @@ use Rattle.messages.specs.declared.request.Request.{Request}
 use Rattle.pages.specs.Pages.{halves}
 use Rattle.taking.specs.Taking.{verdict}
 use Rattle.taking.specs.declared.Verdict.the-variants.{Repeat, More, Ends}
+use Rattle.messages.specs.declared.edition.Edition.{Edition}
 use Rattle.dock.specs.Dock.{reply}
 use Rattle.gathering.specs.Gathering.{Gathering, gathering, hearIdentity, takePage, noneGathered, hearSvids}
 use Rattle.hearing.specs.Answers.{storing, storeModes, hearModes, declinedAs, hearMode, isDone, isWhole, copied}
@@ -37,16 +39,16 @@ pub not-short : (m : Memory) → Lent m → shortRuns (length (m .run)) (length 
 unfolding shortRuns
 not-short m lent = rw (le-ltb (length (m .run)) 432 (lent .run-size), le-ltb (length (m .heldRun)) 432 (lent .held-run-size))
 
-module _ (l : Laptop) (m : Memory) (lent : Lent m) (x : Message) (answers : eqb (x .head .kind) 0 ≡ false) where
-  pub hear-fit : fits (l .wait) (x .head) ≡ true → heard l m (accepted x) ≡ hearAnswer l m x
+module _ (l : Laptop) (m : Memory) (lent : Lent m) (at : Edition) (x : Message) (answers : eqb (x .head .kind) 0 ≡ false) where
+  pub hear-fit : fits (l .wait) (x .head) ≡ true → heard l m (accepted at x) ≡ hearAnswer l m at x
   unfolding heard hear
   hear-fit e = rw (not-short m lent, answers, e)
 
-  pub hear-late : fits (l .wait) (x .head) ≡ false → isLatePage l (x .head) ≡ true → heard l m (accepted x) ≡ only m (refusedBy 6 (dropped l))
+  pub hear-late : fits (l .wait) (x .head) ≡ false → isLatePage l (x .head) ≡ true → heard l m (accepted at x) ≡ only m (refusedBy 6 (dropped l))
   unfolding heard hear hearUnawaited
   hear-late e p = rw (not-short m lent, answers, e, p)
 
-  pub hear-ignored : fits (l .wait) (x .head) ≡ false → isLatePage l (x .head) ≡ false → heard l m (accepted x) ≡ only m (refusedBy 6 l)
+  pub hear-ignored : fits (l .wait) (x .head) ≡ false → isLatePage l (x .head) ≡ false → heard l m (accepted at x) ≡ only m (refusedBy 6 l)
   unfolding heard hear hearUnawaited
   hear-ignored e p = rw (not-short m lent, answers, e, p)
 
@@ -83,30 +85,30 @@ is-stored : (l : Laptop) → l .candidate ≡ Done → l .gathered .count ≤ l 
 unfolding isWhole
 is-stored l e h = rw e (le-leb (l .gathered .count) (l .stored) h)
 
-module _ (l : Laptop) (m : Memory) where
+module _ (l : Laptop) (m : Memory) (at : Edition) where
   -- Identity
   pub identity-heard : (objects : List ℕ) →
-      hearAnswer l m (reply identityRequest ack objects) ≡
+      hearAnswer l m at (reply identityRequest ack objects) ≡
       record {
-        step = acceptedWith Told·Nothing (opened (length objects) l);
+        step = acceptedWith Told·Nothing (opened (length objects) (lower at ours) l);
         after =
             memory (replicate 72 0) (m .modes) (padded objects) (m .run) (m .heldSvids) (m .heldModes) (m .heldIdentity) (m .heldRun) (m .entered);
       }
   unfolding hearAnswer hearIdentity
   identity-heard objects = refl
 
-  pub identity-busy : hearAnswer l m (reply identityRequest busy []) ≡ only m (acceptedWith Told·Nothing (dropped l))
+  pub identity-busy : hearAnswer l m at (reply identityRequest busy []) ≡ only m (acceptedWith Told·Nothing (dropped l))
   unfolding hearAnswer hearIdentity
   identity-busy = refl
 
   -- SVIDs
   module _ (open-list : l .candidate ≡ Open) where
-    pub svids-busy : hearAnswer l m (reply (discover pdSid svidsCommand) busy []) ≡ only m (acceptedWith Told·Nothing (ended l))
+    pub svids-busy : hearAnswer l m at (reply (discover pdSid svidsCommand) busy []) ≡ only m (acceptedWith Told·Nothing (ended l))
     unfolding hearAnswer hearSvids publishing
     svids-busy = refl
 
     pub svids-nak : l .gathered .count ≡ 0 →
-        hearAnswer l m (reply (discover pdSid svidsCommand) nak []) ≡
+        hearAnswer l m at (reply (discover pdSid svidsCommand) nak []) ≡
         record {
           step = acceptedWith Told·Nothing (published (gatheredTo Done 0 l));
           after =
@@ -125,34 +127,34 @@ module _ (l : Laptop) (m : Memory) where
 
     module _ (few : l .pages < 200) (objects : List ℕ) where
       page-taken : (g : Gathering) → takePage counted-in (m .svids) (halves objects) ≡ g → isWhole (g .step .laptop) ≡ false →
-          hearAnswer l m (reply (discover pdSid svidsCommand) ack objects) ≡ withGathering m g
+          hearAnswer l m at (reply (discover pdSid svidsCommand) ack objects) ≡ withGathering m g
       unfolding hearAnswer hearSvids publishing
       page-taken g e n =
           ap (λ (x : Laptop). publishedIfWhole (withGathering m (takePage x (m .svids) (halves objects)))) (sym (counted-more l (omega arith))) ∙
           ap (λ (x : Gathering). publishedIfWhole (withGathering m x)) e ∙ whole-no (withGathering m g) n
 
       pub page-more : verdict gathered (halves objects) ≡ More → l .pages + 1 < 200 →
-          hearAnswer l m (reply (discover pdSid svidsCommand) ack objects) ≡
+          hearAnswer l m at (reply (discover pdSid svidsCommand) ack objects) ≡
           withGathering m (gathering (acceptedWith Told·Nothing (gatheredTo Open (length gathered + 12) counted-in)) (sets (m .svids) (length gathered) (halves objects)))
       page-more e h = page-taken _ (take-full counted-in (m .svids) (halves objects) gathered refl (verdict gathered (halves objects)) refl e h) (not-done _ (inr refl))
 
       pub page-again : verdict gathered (halves objects) ≡ Repeat → l .pages + 1 < 200 →
-          hearAnswer l m (reply (discover pdSid svidsCommand) ack objects) ≡ withGathering m (gathering (acceptedWith Told·Nothing (ended counted-in)) (m .svids))
+          hearAnswer l m at (reply (discover pdSid svidsCommand) ack objects) ≡ withGathering m (gathering (acceptedWith Told·Nothing (ended counted-in)) (m .svids))
       page-again e h = page-taken _ (take-repeat counted-in (m .svids) (halves objects) gathered refl (verdict gathered (halves objects)) refl e h) (not-done _ (inr open-list))
 
       pub page-fourteen : (verdict gathered (halves objects) ≡ More) ⊎ (verdict gathered (halves objects) ≡ Repeat) → 200 ≤ l .pages + 1 →
-          hearAnswer l m (reply (discover pdSid svidsCommand) ack objects) ≡ withGathering m (gathering (refusedBy 14 (dropped counted-in)) (m .svids))
+          hearAnswer l m at (reply (discover pdSid svidsCommand) ack objects) ≡ withGathering m (gathering (refusedBy 14 (dropped counted-in)) (m .svids))
       page-fourteen (inl e) h = page-taken _ (take-full-last counted-in (m .svids) (halves objects) gathered refl (verdict gathered (halves objects)) refl e h) (not-done _ (inl refl))
       page-fourteen (inr e) h = page-taken _ (take-repeat-last counted-in (m .svids) (halves objects) gathered refl (verdict gathered (halves objects)) refl e h) (not-done _ (inl refl))
 
       pub page-last : (n : ℕ) → verdict gathered (halves objects) ≡ Ends n → l .stored < length gathered + n →
-          hearAnswer l m (reply (discover pdSid svidsCommand) ack objects) ≡
+          hearAnswer l m at (reply (discover pdSid svidsCommand) ack objects) ≡
           withGathering m (gathering (acceptedWith Told·Nothing (gatheredTo Done (length gathered + n) counted-in)) (sets (m .svids) (length gathered) (take n (halves objects))))
       page-last n e h = page-taken _ (take-ending counted-in (m .svids) (halves objects) gathered refl (verdict gathered (halves objects)) refl n e) (not-stored _ h)
 
   -- Modes
   module _ (svid : ℕ) where
-    pub modes-busy : hearAnswer l m (reply (discover svid modesCommand) busy []) ≡ only m (acceptedWith Told·Nothing (ended l))
+    pub modes-busy : hearAnswer l m at (reply (discover svid modesCommand) busy []) ≡ only m (acceptedWith Told·Nothing (ended l))
     unfolding hearAnswer hearModes publishing
     modes-busy = refl
 
@@ -161,16 +163,16 @@ module _ (l : Laptop) (m : Memory) where
         withStoring m
         (storing (acceptedWith Told·Nothing (storedTo (l .stored + 1) l)) (set (m .modes) (l .stored) (length words)) (sets (m .run) (l .stored * 6) words))
 
-    modes-stored : (words : List ℕ) → l .stored < 72 → hearAnswer l m (reply (discover svid modesCommand) ack words) ≡ publishedIfWhole (stored words)
+    modes-stored : (words : List ℕ) → l .stored < 72 → hearAnswer l m at (reply (discover svid modesCommand) ack words) ≡ publishedIfWhole (stored words)
     unfolding hearAnswer hearModes storeModes publishing
     modes-stored words h = rw (lt-ltb (l .stored) 72 h)
 
     pub modes-more : (words : List ℕ) → l .stored < 72 → l .stored + 1 < l .gathered .count →
-        hearAnswer l m (reply (discover svid modesCommand) ack words) ≡ stored words
+        hearAnswer l m at (reply (discover svid modesCommand) ack words) ≡ stored words
     modes-more words h less = modes-stored words h ∙ whole-no (stored words) (not-stored (storedTo (l .stored + 1) l) less)
 
     pub modes-last : (words : List ℕ) → l .stored < 72 → l .candidate ≡ Done → l .gathered .count ≤ l .stored + 1 →
-        hearAnswer l m (reply (discover svid modesCommand) ack words) ≡
+        hearAnswer l m at (reply (discover svid modesCommand) ack words) ≡
         record {
           step = acceptedWith Told·Nothing (published (storedTo (l .stored + 1) l));
           after =
@@ -192,11 +194,11 @@ module _ (l : Laptop) (m : Memory) where
     not-three : eqb (r .command) 3 ≡ false
     not-three = ne-eqb (r .command) 3 (λ e. omega arith)
 
-    pub mode-busy : hearAnswer l m (reply r busy []) ≡ only m (acceptedWith (declinedAs 3 r) (ended l))
+    pub mode-busy : hearAnswer l m at (reply r busy []) ≡ only m (acceptedWith (declinedAs 3 r) (ended l))
     unfolding hearAnswer hearMode
     mode-busy = rw (not-one, not-two, not-three)
 
-    pub mode-marked : hearAnswer l m (reply r ack []) ≡
+    pub mode-marked : hearAnswer l m at (reply r ack []) ≡
         record {
           step = acceptedWith Told·Nothing (ended l);
           after =

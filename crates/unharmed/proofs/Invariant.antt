@@ -9,9 +9,10 @@ use Rattle.messages.specs.Layout.{ack, nak, busy, Message, messageBytes}
 use Rattle.messages.specs.Requests.{svidsCommand, modesCommand, enterCommand, exitCommand}
 use Rattle.messages.specs.Table.{pdSid}
 use Rattle.messages.specs.Writing.{wellShaped}
+use Rattle.messages.specs.declared.edition.Edition.{Edition}
 use Rattle.messages.specs.declared.request.Request.{Request}
 use Rattle.pages.specs.Pages.{page}
-use Rattle.dock.specs.Data.{listed, withPage, withStanding}
+use Rattle.dock.specs.Data.{listed, withPage, withStanding, withEdition}
 use Rattle.dock.specs.Dock.{reply}
 use Rattle.dock.specs.declared.Dock.{Dock}
 use Rattle.dock.specs.declared.Standing.{Standing}
@@ -36,7 +37,8 @@ use Rattle.unharmed.proofs.Course.{FairAnswer, identityAck, pageAck, mo
 pub record Out (w : Wait) (bytes : List ℕ) : Type 0 where
   pub asked : Request
   pub awaited : w ≡ Answer asked
-  pub bytes-are : bytes ≡ messageBytes (requestMessage asked)
+  pub asked-at : Edition
+  pub bytes-are : bytes ≡ messageBytes asked-at (requestMessage asked)
   pub shaped : wellShaped (requestMessage asked) ≡ true
   pub few : asked .command ≤ exitCommand
 
@@ -57,9 +59,9 @@ AsksFit (Asking r) q = Known r q
 AsksFit (Sending t) q = Unit
 
 module _ (modesOf : ℕ → List ℕ) (d : Dock) where
-  -- the dock with its fixed data
-  abbrev pub dockAt : ℕ → Standing → Dock
-  dockAt q t = withStanding t (withPage q d)
+  -- the dock with its fixed data, answering at an edition
+  abbrev pub dockAt : (e : Edition) → ℕ → Standing → Dock
+  dockAt e q t = withStanding t (withPage q (withEdition e d))
 
   abbrev pub messageOf : FairAnswer → Message
   messageOf identityAck = reply identityRequest ack (take (d .extent) (d .identity))
@@ -69,11 +71,11 @@ module _ (modesOf : ℕ → List ℕ) (d : Dock) where
   messageOf listNak = reply (discover pdSid svidsCommand) nak []
   messageOf (busyTo r) = reply r busy []
 
-  abbrev pub fateOf : Carried → Fate
-  fateOf nothing = gone
-  fateOf (underWay a) = coming (messageBytes (messageOf a))
-  fateOf (sure a) = confirmed (messageBytes (messageOf a))
-  fateOf (arrived b) = came b
+  abbrev pub fateOf : (e : Edition) → Carried → Fate
+  fateOf e nothing = gone
+  fateOf e (underWay a) = coming (messageBytes e (messageOf a))
+  fateOf e (sure a) = confirmed (messageBytes e (messageOf a))
+  fateOf e (arrived b) = came b
 
   -- an answer that the dock may give at page q
   abbrev pub Gives : FairAnswer → ℕ → Type 0
@@ -128,13 +130,15 @@ module _ (modesOf : ℕ → List ℕ) (d : Dock) where
       pub fate-fits : FateFits t q v
       pub asks-fit : AsksFit t q
 
-    abbrev pub systemOf : Laptop → Memory → Way → ℕ → Standing → Carried → ℕ → System
-    systemOf l m way q t v z = record { laptop = l; memory = m; way = way; fate = fateOf v; dock = dockAt q t; lost = z }
+    abbrev pub systemOf : (h e : Edition) → Laptop → Memory → Way → ℕ → Standing → Carried → ℕ → System
+    systemOf h e l m way q t v z =
+        record { laptop = l; memory = m; way = way; fate = fateOf e v; dock = dockAt e q t; highest = h; lost = z }
 
     -- a state that a run reaches
     pub record Reached (s : System) : Type 0 where
+      pub edition-at : Edition
       pub page-at : ℕ
       pub standing-at : Standing
       pub carried : Carried
-      pub is : s ≡ systemOf (s .laptop) (s .memory) (s .way) page-at standing-at carried (s .lost)
+      pub is : s ≡ systemOf (s .highest) edition-at (s .laptop) (s .memory) (s .way) page-at standing-at carried (s .lost)
       pub invariant : Invariant (s .laptop) (s .memory) (s .way) page-at standing-at carried (s .lost)

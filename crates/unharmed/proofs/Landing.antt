@@ -30,7 +30,7 @@ use Rattle.unharmed.proofs.LastAnswer.{isLastHead}
 use Rattle.link.specs.Link.{isUnsure, opens}
 use Rattle.unharmed.proofs.Arrival.{Arrival}
 use Rattle.unharmed.proofs.Course.{FairAnswer, isPage, Carried, Course}
-use Rattle.unharmed.proofs.Invariant.{dockAt, messageOf, Gave, Shaped, CandidateIs}
+use Rattle.unharmed.proofs.Invariant.{messageOf, Gave, Shaped, CandidateIs}
 use Rattle.unharmed.proofs.Awaited.{and-no, no-late-page, not-both}
 
 -- what does not fit is not the last answer needed
@@ -45,7 +45,7 @@ module _ (modesOf : ℕ → List ℕ) (d : Dock) (meets : Meets modesOf d) (l : 
   head = messageOf modesOf d a .head
 
   abbrev pub unsure : Result → Bool
-  unsure r = isUnsure l (r .step .laptop) (dockAt modesOf d q t)
+  unsure r = isUnsure l (r .step .laptop) (listed d) q
 
   abbrev pub lostAfter : Result → ℕ
   lostAfter r = cond (opens l (r .step .laptop)) 0 (arrival .lost-then (unsure r))

@@ -27,7 +27,7 @@ isLastHead l h =
 
 unfoldable pub isLastOutcome : Laptop → Outcome → Bool
 isLastOutcome l (refused number) = false
-isLastOutcome l (accepted m) = isLastHead l (m .head)
+isLastOutcome l (accepted e m) = isLastHead l (m .head)
 
 abbrev pub isLastOf : Laptop → Option (List ℕ) → Bool
 isLastOf l none = false

@@ -1,15 +1,17 @@
 -- Demand 3, of the definitions that the promises of both ends cite.
 use mathlib.Core.Logic.{inl, inr}
-use mathlib.Core.Path.{_≡_, refl, ap, sym, _∙_, subst}
+use mathlib.Core.Path.{_≡_, refl, ap, ap₂, sym, _∙_, subst}
 use mathlib.Core.Bool.{true}
 use mathlib.Core.List.{List, []}
 use Prim.Native.Nat.{ℕ}
 use native.Mathlib.Omega.{arith}
 use lib.ListN.{length}
+use Rattle.messages.specs.Editions.{ours}
 use Rattle.messages.specs.Layout.{messageBytes}
 use Rattle.messages.specs.Table.{rowOf, countsOf, fits, shape}
 use Rattle.messages.specs.Writing.{wellShaped}
 use Rattle.messages.specs.declared.request.Request.{Request}
+use Rattle.messages.specs.declared.edition.Edition.{Edition}
 use Rattle.dock.specs.Data.{withStanding}
 use Rattle.dock.specs.Dock.{stepOf}
 use Rattle.dock.specs.declared.Standing.{Standing}
@@ -49,26 +51,28 @@ module _ (modesOf : ℕ → List ℕ) (s : System) (rest : AtRest s) (out : List
   abbrev Asks : Call → Decision → Type 0
   Asks c x =
       Laptop·stepOf (s .laptop) x (length out) .laptop .wait ≡ Answer identityRequest →
-      wayAfter (decided (s .laptop) (s .memory) out x) (s .way) ≡ request (messageBytes (requestMessage identityRequest))
+      wayAfter (decided (s .laptop) (s .memory) out x) (s .way) ≡ request (messageBytes ours (requestMessage identityRequest))
 
   idle : (l : Laptop) → l .wait ≡ Nothing → l .wait ≡ Answer identityRequest → ⊥
   idle l e f = let n : _≡_ {A = Wait} Nothing (Answer identityRequest) = sym e ∙ f in let o : _≡_ {A = ℕ} 0 1 = cc in omega arith
 
-  asks-sent : (r : Request) (after : Laptop) → after .wait ≡ Answer r → (c : Call) → Asks c (sends (requestMessage r) after)
-  asks-sent r after w c e = go (sends-out (s .laptop) after (s .memory) (requestMessage r) out (s .way) (ap isAwaiting w))
+  asks-sent : (r : Request) (after : Laptop) → after .wait ≡ Answer r → (r .command ≡ 1 → after .edition ≡ ours) → (c : Call) →
+      Asks c (sends (requestMessage r) after)
+  asks-sent r after w at c e = go (sends-out (s .laptop) after (s .memory) (requestMessage r) out (s .way) (ap isAwaiting w))
     where
       go : SendsOut (s .laptop) after (s .memory) (requestMessage r) out (s .way) (ap isAwaiting w) →
-          wayAfter (decided (s .laptop) (s .memory) out (sends (requestMessage r) after)) (s .way) ≡ request (messageBytes (requestMessage identityRequest))
+          wayAfter (decided (s .laptop) (s .memory) out (sends (requestMessage r) after)) (s .way) ≡ request (messageBytes ours (requestMessage identityRequest))
       go (inl f) =
           let same : Answer r ≡ Answer identityRequest = sym w ∙ ap (λ (l : Laptop). l .wait) (sym (f .0)) ∙ e in
-          f .1 ∙ ap (λ (x : Wait). request (messageBytes (requestMessage (awaitedBy x)))) same
+          let first : r .command ≡ 1 = ap (λ (x : Wait). awaitedBy x .command) same in
+          f .1 ∙ ap₂ (λ (n : Edition) (x : Wait). request (messageBytes n (requestMessage (awaitedBy x)))) (at first) same
       go (inr f) = absurd (idle (s .laptop) (rest .nothing-awaited) (ap (λ (l : Laptop). l .wait) (sym (f .0)) ∙ e))
 
   decided-sent : (c : Call) (x : Decision) → Decides (s .laptop) c x → Asks c x
   unfolding Laptop·stepOf
   decided-sent c x (stays number n f) = subst (Asks c) (sym f) (λ e. absurd (idle (s .laptop) (rest .nothing-awaited) e))
-  decided-sent c x (asks-identity a f) = subst (Asks c) (sym f) (asks-sent identityRequest (identityAsked (s .laptop)) refl c)
-  decided-sent c x (asks-other r least few f) = subst (Asks c) (sym f) (asks-sent r (awaiting r (s .laptop)) refl c)
+  decided-sent c x (asks-identity a f) = subst (Asks c) (sym f) (asks-sent identityRequest (identityAsked (s .laptop)) refl (λ h. refl) c)
+  decided-sent c x (asks-other r least few f) = subst (Asks c) (sym f) (asks-sent r (awaiting r (s .laptop)) refl (λ h. absurd (omega (arith, least, h))) c)
   decided-sent c x (drops told a f) = subst (Asks c) (sym f) (λ e. absurd (idle (dropped (s .laptop)) refl e))
   decided-sent c x (ends told f) = subst (Asks c) (sym f) (λ e. absurd (idle (ended (s .laptop)) refl e))
 
@@ -113,7 +117,7 @@ module _ (modesOf : ℕ → List ℕ) (start : System) (meets : Meets modesOf (s
 
   pub begun : Reached modesOf (start .dock) (heldWords start) start
   begun =
-      reached modesOf (start .dock) (heldWords start) start (start .dock .page) Ready nothing (begins .nothing-else)
+      reached modesOf (start .dock) (heldWords start) start (start .dock .edition) (start .dock .page) Ready nothing (begins .nothing-else)
       (ap (λ (t : Standing). withStanding t (start .dock)) (begins .at-rest))
       (record {
         formed = begins .formed;
@@ -127,6 +131,7 @@ module _ (modesOf : ℕ → List ℕ) (start : System) (meets : Meets modesOf (s
             (record {
               asked = identityRequest;
               awaited = begins .identity-awaited;
+              asked-at = ours;
               bytes-are = refl;
               shaped = identity-shaped;
               few = omega arith;
@@ -153,10 +158,10 @@ module _ (modesOf : ℕ → List ℕ) (start : System) (meets : Meets modesOf (s
     taken-at : (s : System) → Reached modesOf (start .dock) (heldWords start) s → RequestTaken s
     unfolding stepOf
     taken-at s r bytes room e =
-        let d : s .dock ≡ dockAt modesOf (start .dock) (r .page-at) (r .standing-at) = ap (λ (x : System). x .dock) (r .is) in
+        let d : s .dock ≡ dockAt modesOf (start .dock) (r .edition-at) (r .page-at) (r .standing-at) = ap (λ (x : System). x .dock) (r .is) in
         let i : Inv modesOf (start .dock) (heldWords start) (s .laptop) (s .memory) (request bytes) (r .page-at) (r .standing-at) (r .carried) (s .lost) =
         subst (λ (w : Way). Inv modesOf (start .dock) (heldWords start) (s .laptop) (s .memory) w (r .page-at) (r .standing-at) (r .carried) (s .lost)) e (r .invariant) in
-        let x = request-decided modesOf (start .dock) (heldWords start) (s .laptop) (s .memory) bytes (r .page-at) (r .standing-at) (r .carried) (s .lost) i [] in
+        let x = request-decided modesOf (start .dock) (heldWords start) (s .highest) (r .edition-at) (s .laptop) (s .memory) bytes (r .page-at) (r .standing-at) (r .carried) (s .lost) i [] in
         rw (d, x)
 
     pub request-taken : RequestTaken after

@@ -12,6 +12,7 @@ use borrow.Author.Tests.{eqb-true, eqb-false, eq-eqb, ne-eqb, ltb-true, ltb-fals
 use Rattle.messages.specs.Requests.{modesCommand}
 use Rattle.messages.specs.Writing.{wellShaped}
 use Rattle.messages.proofs.Rule.{shape-count}
+use Rattle.messages.specs.declared.edition.Edition.{Edition}
 use Rattle.dock.specs.Data.{listed}
 use Rattle.dock.specs.declared.Dock.{Dock}
 use Rattle.dock.specs.declared.Standing.{Standing}
@@ -173,13 +174,13 @@ module _ (modesOf : ℕ → List ℕ) (d : Dock) (meets : Meets modesOf d) (l : 
           end-lands = λ x y. inl last;
         }
 
-    pub modes-landed : ModesLand (hearAnswer l m (messageOf modesOf d (modesAck svid)))
-    modes-landed = go (ltb (l .stored + 1) (l .gathered .count)) refl
+    pub modes-landed : (at : Edition) → ModesLand (hearAnswer l m at (messageOf modesOf d (modesAck svid)))
+    modes-landed at = go (ltb (l .stored + 1) (l .gathered .count)) refl
       where
-        go : (b : Bool) → ltb (l .stored + 1) (l .gathered .count) ≡ b → ModesLand (hearAnswer l m (messageOf modesOf d (modesAck svid)))
+        go : (b : Bool) → ltb (l .stored + 1) (l .gathered .count) ≡ b → ModesLand (hearAnswer l m at (messageOf modesOf d (modesAck svid)))
         go true b =
             let less = ltb-true (l .stored + 1) (l .gathered .count) b in
-            subst ModesLand (sym (modes-more l m svid words places-left less)) (stored-lands less)
+            subst ModesLand (sym (modes-more l m at svid words places-left less)) (stored-lands less)
         go false b =
             let least = ltb-false (l .stored + 1) (l .gathered .count) b in
-            subst ModesLand (sym (modes-last l m svid words places-left (modes-with .0) least)) (publish-lands (omega (arith, done-fits .1)))
+            subst ModesLand (sym (modes-last l m at svid words places-left (modes-with .0) least)) (publish-lands (omega (arith, done-fits .1)))

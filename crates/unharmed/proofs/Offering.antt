@@ -10,6 +10,7 @@ use borrow.Author.Tests.{eq-eqb, ne-eqb, eqb-true}
 use Rattle.laws.proofs.Lines.{and-left, and-right}
 use Rattle.messages.specs.Requests.{svidsCommand, modesCommand, sameRequest}
 use Rattle.messages.specs.Table.{pdSid}
+use Rattle.messages.specs.declared.edition.Edition.{Edition}
 use Rattle.messages.specs.declared.request.Request.{Request}
 use Rattle.dock.specs.Data.{listed, goodIdentity}
 use Rattle.dock.specs.Dock.{Decision, refuses, sends, sending, isEmpty, givePage, giveIdentity, giveModes, giveOther, bare, decidePolicy, decidePolicyAnswer}
@@ -34,10 +35,10 @@ some-list : (list : List ℕ) → isEmpty list ≡ false → 0 < length list
 some-list [] e = absurd (false≢true (sym e))
 some-list (x ∷ list) e = omega arith
 
-module _ (modesOf : ℕ → List ℕ) (d : Dock) (q : ℕ) where
+module _ (modesOf : ℕ → List ℕ) (d : Dock) (e : Edition) (q : ℕ) where
   -- the dock has an answer of the fair dock to send, or refuses policy's
   pub data Offers (x : Decision) : Type 0 where
-    offers : (a : FairAnswer) → Gives modesOf d a q → x ≡ sends (messageOf modesOf d a) (dockAt modesOf d q (Sending (isPage a))) → Offers x
+    offers : (a : FairAnswer) → Gives modesOf d a q → x ≡ sends (messageOf modesOf d a) (dockAt modesOf d e q (Sending (isPage a))) → Offers x
     declines : (number : ℕ) → x ≡ refuses number → Offers x
 
   either : (b : Bool) (x y : Decision) → (b ≡ true → Offers x) → (b ≡ false → Offers y) → Offers (cond b x y)
@@ -45,7 +46,7 @@ module _ (modesOf : ℕ → List ℕ) (d : Dock) (q : ℕ) where
   either false x y f g = g refl
 
   unfoldable pub asked-by : (r : Request) → Dock
-  asked-by r = dockAt modesOf d q (Asking r)
+  asked-by r = dockAt modesOf d e q (Asking r)
 
   identity-offered : q ≡ 0 → Offers (decidePolicyAnswer (asked-by identityRequest) (Asking identityRequest) Give identityRequest (brought modesOf Give identityRequest))
   unfolding decidePolicyAnswer decidePolicy brought bare giveOther giveIdentity asked-by sending

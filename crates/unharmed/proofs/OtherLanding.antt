@@ -11,12 +11,14 @@ use lib.Seq.{length-take-le, take-nil}
 use borrow.Author.Tests.{ne-eqb}
 use Rattle.laws.specs.Padded.{padded}
 use Rattle.laws.proofs.Padded.{take-padded}
+use Rattle.messages.specs.Editions.{ours, lower}
 use Rattle.messages.specs.Layout.{busy}
 use Rattle.messages.specs.Requests.{svidsCommand}
 use Rattle.messages.specs.Table.{pdSid}
 use Rattle.messages.specs.Writing.{wellShaped}
 use Rattle.messages.specs.declared.request.Request.{Request}
 use Rattle.messages.proofs.Rule.{shape-count}
+use Rattle.messages.specs.declared.edition.Edition.{Edition}
 use Rattle.dock.specs.Data.{listed}
 use Rattle.dock.specs.Dock.{reply}
 use Rattle.dock.specs.declared.Dock.{Dock}
@@ -43,7 +45,7 @@ use Rattle.link.specs.Link.{isUnsure, opens}
 use Rattle.unharmed.proofs.Arrival.{Arrival}
 use Rattle.unharmed.proofs.Course.{identityAck, modeAck, listNak, busyTo, Carried, At, in-step, lost-one, Course, even, undecided, early}
 use Rattle.unharmed.proofs.Hears.{identity-busy, svids-busy, svids-nak, modes-busy, mode-busy, mode-marked}
-use Rattle.unharmed.proofs.Invariant.{dockAt, messageOf, Gave, Shaped, CandidateIs}
+use Rattle.unharmed.proofs.Invariant.{messageOf, Gave, Shaped, CandidateIs}
 use Rattle.unharmed.proofs.Awaited.{and-no, with-identity, with-svids, with-mode, awaits}
 use Rattle.unharmed.proofs.Landing.{unsure-no, ended-lands, dropped-lands, LandsOf}
 
@@ -67,21 +69,21 @@ module _ (modesOf : ℕ → List ℕ) (d : Dock) (meets : Meets modesOf d) (l : 
     unfolding wellShaped
     few-objects = omega (arith, shape-count (messageOf modesOf d identityAck .head) (length objects + 1) shaped .1)
 
-    abbrev opened-result : Result
-    opened-result =
+    abbrev opened-result : Edition → Result
+    opened-result at =
         record {
-          step = acceptedWith Told·Nothing (opened (length objects) l);
+          step = acceptedWith Told·Nothing (opened (length objects) (lower at ours) l);
           after =
               memory (replicate 72 0) (m .modes) (padded objects) (m .run) (m .heldSvids) (m .heldModes) (m .heldIdentity) (m .heldRun) (m .entered);
         }
 
-    pub identity-lands : LandsOf modesOf d meets l m q t z v formed candidate identityAck shaped gave arrival opened-result
-    identity-lands =
+    pub identity-lands : (at : Edition) → LandsOf modesOf d meets l m q t z v formed candidate identityAck shaped gave arrival (opened-result at)
+    identity-lands at =
         let absent = with-identity (l .candidate) (l .pages) (l .stored) (m .svids) (awaits l m formed identityRequest waits) in
         let first : [] ≡ take (q * 12) (listed d) = ap (λ (n : ℕ). take (n * 12) (listed d)) (sym gave) in
         record {
           candidate-lands =
-              rw (identity-opens opened-result refl, unsure-no modesOf d meets l m q t z identityAck v formed shaped gave candidate arrival opened-result refl)
+              rw (identity-opens (opened-result at) refl, unsure-no modesOf d meets l m q t z identityAck v formed shaped gave candidate arrival (opened-result at) refl)
               (take-padded objects few-objects, even (in-step first (omega (arith, gave)) (omega (arith, absent .1, gave))) (arrival .quiet-no refl));
           new-lands = λ x. absurd (false≢true (sym identity-last ∙ x));
           old-lands = λ x. refl;
@@ -147,8 +149,8 @@ module _ (modesOf : ℕ → List ℕ) (d : Dock) (meets : Meets modesOf d) (l : 
           end-lands = λ x y. inl nak-last;
         }
 
-    pub nak-landed : LandsOf modesOf d meets l m q t z v formed candidate listNak shaped gave arrival (hearAnswer l m (messageOf modesOf d listNak))
-    nak-landed = subst (LandsOf modesOf d meets l m q t z v formed candidate listNak shaped gave arrival) (sym (svids-nak l m nak-open (nothing-gathered (nak-is .1)))) nak-lands
+    pub nak-landed : (at : Edition) → LandsOf modesOf d meets l m q t z v formed candidate listNak shaped gave arrival (hearAnswer l m at (messageOf modesOf d listNak))
+    nak-landed at = subst (LandsOf modesOf d meets l m q t z v formed candidate listNak shaped gave arrival) (sym (svids-nak l m at nak-open (nothing-gathered (nak-is .1)))) nak-lands
 
   -- Enter and Exit: a mark changes
   module _ (r : Request) (shaped : Shaped modesOf d (modeAck r)) (gave : Gave modesOf d (modeAck r) q) (arrival : Arrival (listed d) t q z (modeAck r) v)
@@ -177,7 +179,7 @@ module _ (modesOf : ℕ → List ℕ) (d : Dock) (meets : Meets modesOf d) (l : 
         record {
           candidate-lands =
               subst
-              (λ (c : Candidate). CandidateIs modesOf d c (l .gathered) (l .stored) (l .pages) (marked .after) t q (arrival .fate-then (isUnsure l (ended l) (dockAt modesOf d q t))) (cond (opens l (ended l)) 0 (arrival .lost-then (isUnsure l (ended l) (dockAt modesOf d q t)))))
+              (λ (c : Candidate). CandidateIs modesOf d c (l .gathered) (l .stored) (l .pages) (marked .after) t q (arrival .fate-then (isUnsure l (ended l) (listed d) q)) (cond (opens l (ended l)) 0 (arrival .lost-then (isUnsure l (ended l) (listed d) q))))
               (sym mode-absent) tt;
           new-lands = λ x. absurd (false≢true (sym mode-last ∙ x));
           old-lands = λ x. refl;
@@ -187,8 +189,8 @@ module _ (modesOf : ℕ → List ℕ) (d : Dock) (meets : Meets modesOf d) (l : 
           end-lands = λ x y. absurd (false≢true (sym x ∙ y));
         }
 
-    pub mode-landed : LandsOf modesOf d meets l m q t z v formed candidate (modeAck r) shaped gave arrival (hearAnswer l m (messageOf modesOf d (modeAck r)))
-    mode-landed = subst (LandsOf modesOf d meets l m q t z v formed candidate (modeAck r) shaped gave arrival) (sym (mode-marked l m r gave)) marked-lands
+    pub mode-landed : (at : Edition) → LandsOf modesOf d meets l m q t z v formed candidate (modeAck r) shaped gave arrival (hearAnswer l m at (messageOf modesOf d (modeAck r)))
+    mode-landed at = subst (LandsOf modesOf d meets l m q t z v formed candidate (modeAck r) shaped gave arrival) (sym (mode-marked l m at r gave)) marked-lands
 
   -- BUSY
   module _ (r : Request) (shaped : Shaped modesOf d (busyTo r)) (gave : Gave modesOf d (busyTo r) q) (arrival : Arrival (listed d) t q z (busyTo r) v)
@@ -207,18 +209,18 @@ module _ (modesOf : ℕ → List ℕ) (d : Dock) (meets : Meets modesOf d) (l : 
     given-up-lands : l .candidate ≡ Absent → BusyLands (only m (acceptedWith Told·Nothing (dropped l)))
     given-up-lands c = dropped-lands modesOf d meets l m q t z (busyTo r) v formed shaped gave candidate arrival busy-last c
 
-    pub busy-landed : BusyLands (hearAnswer l m (messageOf modesOf d (busyTo r)))
-    busy-landed = go (awaits l m formed r waits)
+    pub busy-landed : (at : Edition) → BusyLands (hearAnswer l m at (messageOf modesOf d (busyTo r)))
+    busy-landed at = go (awaits l m formed r waits)
       where
-        go : WaitFits (Answer r) (l .candidate) (l .pages) (l .stored) (m .svids) → BusyLands (hearAnswer l m (messageOf modesOf d (busyTo r)))
+        go : WaitFits (Answer r) (l .candidate) (l .pages) (l .stored) (m .svids) → BusyLands (hearAnswer l m at (messageOf modesOf d (busyTo r)))
         go (inl f) =
-            subst BusyLands (sym (ap (λ (x : Request). hearAnswer l m (reply x busy [])) (f .0) ∙ identity-busy l m)) (given-up-lands (f .1))
+            subst BusyLands (sym (ap (λ (x : Request). hearAnswer l m at (reply x busy [])) (f .0) ∙ identity-busy l m at)) (given-up-lands (f .1))
         go (inr (inl f)) =
-            subst BusyLands (sym (ap (λ (x : Request). hearAnswer l m (reply x busy [])) (f .0) ∙ svids-busy l m (f .1))) (kept-lands Told·Nothing)
+            subst BusyLands (sym (ap (λ (x : Request). hearAnswer l m at (reply x busy [])) (f .0) ∙ svids-busy l m at (f .1))) (kept-lands Told·Nothing)
         go (inr (inr (inl f))) =
             let fit : Listed (l .gathered) (l .stored) (m .svids) (m .modes) × (l .stored < l .gathered .count) =
             subst (λ (c : Candidate). CandidateFits c (l .gathered) (l .pages) (l .stored) (m .svids) (m .modes)) (f .1) (formed .candidate-fits) in
             subst BusyLands
-            (sym (ap (λ (x : Request). hearAnswer l m (reply x busy [])) (f .0) ∙ modes-busy l m (getD (m .svids) (l .stored) 0)))
+            (sym (ap (λ (x : Request). hearAnswer l m at (reply x busy [])) (f .0) ∙ modes-busy l m at (getD (m .svids) (l .stored) 0)))
             (kept-lands Told·Nothing)
-        go (inr (inr (inr f))) = subst BusyLands (sym (mode-busy l m r (f .0))) (kept-lands (declinedAs 3 r))
+        go (inr (inr (inr f))) = subst BusyLands (sym (mode-busy l m at r (f .0))) (kept-lands (declinedAs 3 r))

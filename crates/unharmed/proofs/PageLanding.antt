@@ -15,6 +15,7 @@ use Rattle.pages.specs.Pages.{halves, page, isLast}
 use Rattle.taking.specs.Taking.{verdict}
 use Rattle.taking.specs.declared.Verdict.the-variants.{Repeat, More, Ends}
 use Rattle.taking.proofs.Sizes.{more-fits, ends-fits}
+use Rattle.messages.specs.declared.edition.Edition.{Edition}
 use Rattle.dock.specs.Data.{listed}
 use Rattle.dock.specs.declared.Dock.{Dock}
 use Rattle.dock.specs.declared.Standing.{Standing}
@@ -151,27 +152,27 @@ module _ (modesOf : ℕ → List ℕ) (d : Dock) (meets : Meets modesOf d) (l : 
           settled = then .0;
         })
 
-    pub svids-landed : PageLands (hearAnswer l m (messageOf modesOf d (pageAck p)))
-    svids-landed = go page-taken
+    pub svids-landed : (at : Edition) → PageLands (hearAnswer l m at (messageOf modesOf d (pageAck p)))
+    svids-landed at = go page-taken
       where
         few-pages : (verdict gathered values ≡ More) ⊎ (verdict gathered values ≡ Repeat) → (b : Bool) → ltb (l .pages + 1) 200 ≡ b →
-            (l .pages + 1 < 200 → PageLands (hearAnswer l m (messageOf modesOf d (pageAck p)))) → PageLands (hearAnswer l m (messageOf modesOf d (pageAck p)))
+            (l .pages + 1 < 200 → PageLands (hearAnswer l m at (messageOf modesOf d (pageAck p)))) → PageLands (hearAnswer l m at (messageOf modesOf d (pageAck p)))
         few-pages e true b f = f (ltb-true (l .pages + 1) 200 b)
         few-pages e false b f =
-            subst PageLands (sym (page-fourteen l m open-list (open-fits .1) (page (listed d) p) e (ltb-false (l .pages + 1) 200 b))) fourteen-lands
+            subst PageLands (sym (page-fourteen l m at open-list (open-fits .1) (page (listed d) p) e (ltb-false (l .pages + 1) 200 b))) fourteen-lands
 
-        go : Taken (listed d) gathered (l .pages) p z → PageLands (hearAnswer l m (messageOf modesOf d (pageAck p)))
+        go : Taken (listed d) gathered (l .pages) p z → PageLands (hearAnswer l m at (messageOf modesOf d (pageAck p)))
         go (grows e same h k) =
             few-pages (inl e) (ltb (l .pages + 1) 200) refl
-            (λ less. subst PageLands (sym (page-more l m open-list (open-fits .1) (page (listed d) p) e less)) (more-lands e same h k))
+            (λ less. subst PageLands (sym (page-more l m at open-list (open-fits .1) (page (listed d) p) e less)) (more-lands e same h k))
         go (again e same h k) =
             few-pages (inr e) (ltb (l .pages + 1) 200) refl
-            (λ less. subst PageLands (sym (page-again l m open-list (open-fits .1) (page (listed d) p) e less)) (again-lands same h k))
+            (λ less. subst PageLands (sym (page-again l m at open-list (open-fits .1) (page (listed d) p) e less)) (again-lands same h k))
         go (finishes n e same last k) =
             let all : length (gathered ++ take n values) ≡ length (listed d) = ap length same in
             let fit = ends-fits gathered values n e in
             subst PageLands
             (sym
-            (page-last l m open-list (open-fits .1) (page (listed d) p) n e
+            (page-last l m at open-list (open-fits .1) (page (listed d) p) n e
             (omega (arith, open-fits .2, length-append gathered (take n values), length-take-le n values (fit .0), gave))))
             (last-lands n e same last k)

@@ -33,10 +33,10 @@ module _ (modesOf : ℕ → List ℕ) (s : System) where
   call-is c out e = ap (λ (b : Bool). cond b s (afterCall (laptopDoes c (s .laptop) (s .memory) out) s)) e
 
   reach-follows : (bytes out : List ℕ) (way : Way) (fate : Fate) → way ≡ request bytes → isConfirmed fate ≡ false →
-      reaches out way fate s ≡ reachedBy out (dockHears (s .dock) bytes) s
+      reaches out way fate s ≡ reachedBy out (dockHears (s .highest) (s .dock) bytes) s
   reach-follows bytes out way fate e f = ap (λ (w : Way). reaches out w fate s) e ∙ go fate f
     where
-      go : (x : Fate) → isConfirmed x ≡ false → reaches out (request bytes) x s ≡ reachedBy out (dockHears (s .dock) bytes) s
+      go : (x : Fate) → isConfirmed x ≡ false → reaches out (request bytes) x s ≡ reachedBy out (dockHears (s .highest) (s .dock) bytes) s
       go gone n = refl
       go (coming a) n = refl
       go (confirmed a) n = absurd (false≢true (sym n))
@@ -56,7 +56,7 @@ module _ (modesOf : ℕ → List ℕ) (s : System) where
       (ap (λ (x : System). x .dock) is, λ h. ap (λ (x : System). x .fate) is ∙ hands-over (dockAnswers (s .dock) policy r objects) out (s .fate) h)
 
   reaches-so : (bytes out : List ℕ) → s .way ≡ request bytes → isConfirmed (s .fate) ≡ false →
-      step modesOf (reach out) s ≡ reachedBy out (dockHears (s .dock) bytes) s
+      step modesOf (reach out) s ≡ reachedBy out (dockHears (s .highest) (s .dock) bytes) s
   unfolding step
   reaches-so bytes out e f = reach-follows bytes out (s .way) (s .fate) e f
 
@@ -88,7 +88,7 @@ module _ (modesOf : ℕ → List ℕ) (s : System) where
         answer-lost = λ bytes e. ap (λ (f : Fate). losesAnswer f s .fate) e;
         call-made = λ c out e. (ap (λ (x : System). x .laptop) (call-is c out e), ap (λ (x : System). x .memory) (call-is c out e));
         request-reaches = λ bytes out e f.
-            (ap (λ (x : System). x .dock) (reaches-so bytes out e f), λ h. ap (λ (x : System). x .fate) (reaches-so bytes out e f) ∙ hands-over (dockHears (s .dock) bytes) out gone h);
+            (ap (λ (x : System). x .dock) (reaches-so bytes out e f), λ h. ap (λ (x : System). x .fate) (reaches-so bytes out e f) ∙ hands-over (dockHears (s .highest) (s .dock) bytes) out gone h);
         policy-gives = λ r out e. follows Give r _ out refl e refl;
         policy-says-busy = λ r out e. follows Busy r [] out refl e refl;
         policy-says-nak = λ r out e c n. follows Nak r [] out refl e (nak-fair r c n);

@@ -10,6 +10,7 @@ use borrow.Author.Tests.{leb-true}
 use Rattle.laws.specs.Bounded.{Below}
 use Rattle.laws.proofs.Lines.{and-left, and-right}
 use Rattle.laws.proofs.Padded.{padded-at, take-padded}
+use Rattle.messages.specs.declared.edition.Edition.{Edition}
 use Rattle.dock.specs.Data.{listed, goodIdentity, goodData, loaded}
 use Rattle.dock.specs.declared.Dock.{Dock}
 use Rattle.dock.specs.declared.Standing.the-variants.{Ready}
@@ -23,24 +24,24 @@ use Rattle.link.specs.Demand.{Meets, AtRest, apart}
 use Rattle.link.specs.Exchanges.{HasAll}
 
 -- data that loading takes, whose numbers are as wide as messages have them
-module _ (modesOf : ℕ → List ℕ) (identity svids : List ℕ) (good : goodData identity svids ≡ true) where
+module _ (modesOf : ℕ → List ℕ) (at : Edition) (identity svids : List ℕ) (good : goodData identity svids ≡ true) where
   few-objects : length identity ≤ 6
   unfolding goodData goodIdentity
   few-objects =
       leb-true (length identity) 6 (and-right (leb 3 (length identity)) _ (and-left (goodIdentity (length identity)) _ good))
 
-  list-again : listed (loaded identity svids) ≡ svids
+  list-again : listed (loaded at identity svids) ≡ svids
   unfolding loaded
   list-again = take-append-seam svids _
 
-  identity-again : take (loaded identity svids .extent) (loaded identity svids .identity) ≡ identity
+  identity-again : take (loaded at identity svids .extent) (loaded at identity svids .identity) ≡ identity
   unfolding loaded
   identity-again = take-padded identity few-objects
 
-  pub loaded-meets : Below (2 ^ 16) svids → Below (2 ^ 32) identity → ((svid : ℕ) → Below (2 ^ 32) (modesOf svid)) → Meets modesOf (loaded identity svids)
+  pub loaded-meets : Below (2 ^ 16) svids → Below (2 ^ 32) identity → ((svid : ℕ) → Below (2 ^ 32) (modesOf svid)) → Meets modesOf (loaded at identity svids)
   loaded-meets s i m =
       record {
-        sound = loaded-sound identity svids good;
+        sound = loaded-sound at identity svids good;
         svids-fit = subst (Below (2 ^ 16)) (sym list-again) s;
         identity-fits = subst (Below (2 ^ 32)) (sym identity-again) i;
         modes-fit = m;
@@ -48,7 +49,7 @@ module _ (modesOf : ℕ → List ℕ) (identity svids : List ℕ) (good : goodDa
 
   -- 3 to 6 identity objects in the dock's array of six; where each SVID has 1 to 6 modes the dock has all that is asked
   pub loaded-has-all : ((i : ℕ) → i < length svids → 1 ≤ length (modesOf (getD svids i 0))) →
-      ((i : ℕ) → i < length svids → length (modesOf (getD svids i 0)) ≤ 6) → HasAll modesOf (loaded identity svids)
+      ((i : ℕ) → i < length svids → length (modesOf (getD svids i 0)) ≤ 6) → HasAll modesOf (loaded at identity svids)
   unfolding goodData loaded
   loaded-has-all some few =
       record {
@@ -59,10 +60,10 @@ module _ (modesOf : ℕ → List ℕ) (identity svids : List ℕ) (good : goodDa
       }
 
 -- a laptop that was fresh and was lent its arrays, after any calls, where it awaits nothing, and a dock that is ready
-pub rests-after : (history : List (Call × List ℕ)) (m : Memory) (d : Dock) → Lent m → m .entered ≡ replicate 72 0 → d .standing ≡ Ready →
+pub rests-after : (history : List (Call × List ℕ)) (m : Memory) (highest : Edition) (d : Dock) → Lent m → m .entered ≡ replicate 72 0 → d .standing ≡ Ready →
     keptAfter history (record { laptop = freshLaptop; memory = m }) .laptop .wait ≡ Nothing →
-    AtRest (apart (keptAfter history (record { laptop = freshLaptop; memory = m })) d)
-rests-after history m d lent e r idle =
+    AtRest (apart (keptAfter history (record { laptop = freshLaptop; memory = m })) highest d)
+rests-after history m highest d lent e r idle =
     record {
       formed = keeps-all history (record { laptop = freshLaptop; memory = m }) (fresh m lent e);
       nothing-awaited = idle;

@@ -6,8 +6,9 @@ use Prim.Native.Nat.{ℕ}
 use lib.Dec.{ltb}
 use lib.ListN.{length, take}
 use Rattle.messages.specs.Layout.{withReservedClear, withReservedSet}
-use Rattle.messages.specs.Reading.{Outcome, readOutcome}
+use Rattle.messages.specs.Reading.{Outcome}
 use Rattle.messages.proofs.Reserved.{reserved-ignored, clear-again, clear-set}
+use Rattle.messages.specs.declared.edition.Edition.{Edition}
 use Rattle.dock.specs.Data.{listed}
 use Rattle.dock.specs.Dock.{Decision, stepOf, bufferOf, decideMessage}
 use Rattle.dock.specs.declared.Dock.{Dock}
@@ -20,7 +21,7 @@ use Rattle.laptop.specs.declared.Laptop.{Laptop}
 use Rattle.laptop_laws.specs.Effects.{Call, message, Effect}
 use Rattle.laptop_laws.proofs.Reserved.{effect-same}
 use Rattle.link.specs.Demand.{Meets, Begins, OldOrWhole}
-use Rattle.link.specs.Ends.{laptopDoes, dockAnswers}
+use Rattle.link.specs.Ends.{laptopDoes, heardAt, dockHears, dockAnswers}
 use Rattle.link.specs.Joined.{Way, clear, request, Fate, gone, coming, confirmed, came, System, Event, calls, loseRequest, reach, answer, loseAnswer, arrive, sent, failed}
 use Rattle.link.specs.Link.{wayAfter, isMessage, afterCall, called, lostWith, handedOver, reachedBy, reaches, isFair, brought, answeredBy, answers, isUnsure, opens, fateOnArrival, lostOnArrival, arrivedWith, withFate, arrives, hearsSent, fateOnFailure, hearsFailed, losesAnswer, step, run}
 use Rattle.unharmed.specs.Reserved.{wayWith, fateWith, systemWith, Alike, LeadsTo, there, behind}
@@ -36,9 +37,9 @@ abbrev systemClear : System → System
 systemClear s = systemWith withReservedClear s
 
 -- two systems with equal parts
-alike : (l : Laptop) (m : Memory) (d : Dock) {w w′ : Way} {f f′ : Fate} {n n′ : ℕ} → w ≡ w′ → f ≡ f′ → n ≡ n′ →
-    _≡_ {A = System} (record { laptop = l; memory = m; way = w; fate = f; dock = d; lost = n }) (record { laptop = l; memory = m; way = w′; fate = f′; dock = d; lost = n′ })
-alike l m d ew ef en = λ i. record { laptop = l; memory = m; way = ew i; fate = ef i; dock = d; lost = en i }
+alike : (h : Edition) (l : Laptop) (m : Memory) (d : Dock) {w w′ : Way} {f f′ : Fate} {n n′ : ℕ} → w ≡ w′ → f ≡ f′ → n ≡ n′ →
+    _≡_ {A = System} (record { laptop = l; memory = m; way = w; fate = f; dock = d; highest = h; lost = n }) (record { laptop = l; memory = m; way = w′; fate = f′; dock = d; highest = h; lost = n′ })
+alike h l m d ew ef en = λ i. record { laptop = l; memory = m; way = ew i; fate = ef i; dock = d; highest = h; lost = en i }
 
 -- bytes that are cleared to the same, on their way
 module _ (change : List ℕ → List ℕ) (same : (b : List ℕ) → withReservedClear (change b) ≡ withReservedClear b) where
@@ -53,7 +54,7 @@ module _ (change : List ℕ → List ℕ) (same : (b : List ℕ) → withReserve
   fate-with (came b) = refl
 
   system-with : (s : System) → Alike s (systemWith change s)
-  system-with s = alike (s .laptop) (s .memory) (s .dock) (way-with (s .way)) (fate-with (s .fate)) refl
+  system-with s = alike (s .highest) (s .laptop) (s .memory) (s .dock) (way-with (s .way)) (fate-with (s .fate)) refl
 
 -- bit 5 may be set
 pub set-alike : (s : System) → Alike s (systemWith withReservedSet s)
@@ -78,7 +79,7 @@ lost-same (came b) n = refl
 -- at the laptop: a call, and what arrives
 after-same : (d : Effect) (s : System) (f : Fate) (n : ℕ) → Alike (afterCall d (withFate f n s)) (afterCall d (withFate f n (systemClear s)))
 unfolding wayAfter
-after-same d s f n = alike (d .step .laptop) (d .after) (s .dock) (go (isAwaiting (d .step .laptop .wait)) (ltb 0 (d .step .length))) refl refl
+after-same d s f n = alike (s .highest) (d .step .laptop) (d .after) (s .dock) (go (isAwaiting (d .step .laptop .wait)) (ltb 0 (d .step .length))) refl refl
   where
     go : (a b : Bool) →
         wayClear (cond a (cond b (request (take (d .step .length) (d .buffer))) (s .way)) clear) ≡
@@ -95,7 +96,7 @@ called-same c out s = go (isMessage c)
     d = laptopDoes c (s .laptop) (s .memory) out
 
     fates : Alike (afterCall d (withFate (s .fate) (s .lost) (systemClear s))) (afterCall d (systemClear s))
-    fates = alike (d .step .laptop) (d .after) (s .dock) refl (fate-again (s .fate)) refl
+    fates = alike (s .highest) (d .step .laptop) (d .after) (s .dock) refl (fate-again (s .fate)) refl
 
     go : (t : Bool) → Alike (cond t s (afterCall d s)) (cond t (systemClear s) (afterCall d (systemClear s)))
     go true = stays s
@@ -103,13 +104,13 @@ called-same c out s = go (isMessage c)
 
 -- what arrives with an effect: the answer's fate if it is not confirmed, and the system
 abbrev fateThen : System → Effect → Fate
-fateThen s d = fateOnArrival (s .dock .standing) (isUnsure (s .laptop) (d .step .laptop) (s .dock))
+fateThen s d = fateOnArrival (s .dock .standing) (isUnsure (s .laptop) (d .step .laptop) (listed (s .dock)) (s .dock .page))
 
 abbrev landed : System → Effect → System
 landed s d =
     afterCall d
     (withFate (fateThen s d)
-    (cond (opens (s .laptop) (d .step .laptop)) 0 (lostOnArrival (s .dock .standing) (isUnsure (s .laptop) (d .step .laptop) (s .dock)) (s .lost))) s)
+    (cond (opens (s .laptop) (d .step .laptop)) 0 (lostOnArrival (s .dock .standing) (isUnsure (s .laptop) (d .step .laptop) (listed (s .dock)) (s .dock .page)) (s .lost))) s)
 
 abbrev landedConfirmed : System → Effect → System
 landedConfirmed s d = afterCall d (withFate gone (cond (opens (s .laptop) (d .step .laptop)) 0 (s .lost)) s)
@@ -128,13 +129,14 @@ arrives-same (confirmed bytes) s =
 -- at the dock: a request that reaches it, policy's answer, "sent" and "failed"
 reached-same : (out : List ℕ) (decision : Decision) (s : System) → Alike (reachedBy out decision s) (reachedBy out decision (systemClear s))
 reached-same out decision s =
-    alike (s .laptop) (s .memory) (stepOf (s .dock) decision (length out) .dock) refl refl (lost-same (s .fate) (s .lost))
+    alike (s .highest) (s .laptop) (s .memory) (stepOf (s .dock) decision (length out) .dock) refl refl (lost-same (s .fate) (s .lost))
 
 heard-same : (out bytes : List ℕ) (s : System) →
-    Alike (reachedBy out (decideMessage (s .dock) (readOutcome bytes)) s) (reachedBy out (decideMessage (s .dock) (readOutcome (withReservedClear bytes))) (systemClear s))
+    Alike (reachedBy out (dockHears (s .highest) (s .dock) bytes) s)
+    (reachedBy out (dockHears (s .highest) (s .dock) (withReservedClear bytes)) (systemClear s))
 heard-same out bytes s =
     reached-same out _ s ∙
-    ap (λ (o : Outcome). systemClear (reachedBy out (decideMessage (s .dock) o) (systemClear s))) (sym (reserved-ignored bytes))
+    ap (λ (o : Outcome). systemClear (reachedBy out (decideMessage (s .dock) (heardAt (s .highest) o)) (systemClear s))) (sym (reserved-ignored bytes))
 
 reaches-same : (out : List ℕ) (w : Way) (f : Fate) (s : System) → Alike (reaches out w f s) (reaches out (wayClear w) (fateClear f) (systemClear s))
 reaches-same out clear f s = stays s
@@ -146,7 +148,7 @@ reaches-same out (request bytes) (came b) s = heard-same out bytes s
 answered-same : (out : List ℕ) (offer : Decision) (s : System) → Alike (answeredBy out offer s) (answeredBy out offer (systemClear s))
 unfolding handedOver
 answered-same out offer s =
-    alike (s .laptop) (s .memory) (stepOf (s .dock) offer (length out) .dock) (way-again (s .way)) (go (ltb 0 (stepOf (s .dock) offer (length out) .length))) refl
+    alike (s .highest) (s .laptop) (s .memory) (stepOf (s .dock) offer (length out) .dock) (way-again (s .way)) (go (ltb 0 (stepOf (s .dock) offer (length out) .length))) refl
   where
     go : (t : Bool) →
         fateClear (cond t (coming (take (stepOf (s .dock) offer (length out) .length) (bufferOf offer out))) (s .fate)) ≡
@@ -172,8 +174,8 @@ sent-same Ready f s = stays s
 sent-same (Asking r) f s = stays s
 sent-same (Sending isPage) gone s = stays s
 sent-same (Sending isPage) (confirmed bytes) s = stays s
-sent-same (Sending isPage) (coming bytes) s = alike (s .laptop) (s .memory) _ (way-again (s .way)) (fate-again (confirmed bytes)) refl
-sent-same (Sending isPage) (came b) s = alike (s .laptop) (s .memory) _ (way-again (s .way)) refl refl
+sent-same (Sending isPage) (coming bytes) s = alike (s .highest) (s .laptop) (s .memory) _ (way-again (s .way)) (fate-again (confirmed bytes)) refl
+sent-same (Sending isPage) (came b) s = alike (s .highest) (s .laptop) (s .memory) _ (way-again (s .way)) refl refl
 
 failure-same : (f : Fate) → fateClear (fateOnFailure f) ≡ fateClear (fateOnFailure (fateClear f))
 failure-same gone = refl
@@ -185,11 +187,11 @@ failed-same : (standing : Standing) (s : System) → Alike (hearsFailed standing
 failed-same Ready s = stays s
 failed-same (Asking r) s = stays s
 failed-same (Sending isPage) s =
-    alike (s .laptop) (s .memory) _ (way-again (s .way)) (failure-same (s .fate)) (lost-same (s .fate) (s .lost))
+    alike (s .highest) (s .laptop) (s .memory) _ (way-again (s .way)) (failure-same (s .fate)) (lost-same (s .fate) (s .lost))
 
 lose-answer-same : (f : Fate) (s : System) → Alike (losesAnswer f s) (losesAnswer (fateClear f) (systemClear s))
 lose-answer-same gone s = stays s
-lose-answer-same (coming bytes) s = alike (s .laptop) (s .memory) (s .dock) (way-again (s .way)) refl refl
+lose-answer-same (coming bytes) s = alike (s .highest) (s .laptop) (s .memory) (s .dock) (way-again (s .way)) refl refl
 lose-answer-same (confirmed bytes) s = stays s
 lose-answer-same (came b) s = stays s
 
@@ -197,7 +199,7 @@ lose-answer-same (came b) s = stays s
 step-clear : (modesOf : ℕ → List ℕ) (e : Event) (s : System) → Alike (step modesOf e s) (step modesOf e (systemClear s))
 unfolding step
 step-clear modesOf (calls c out) s = called-same c out s
-step-clear modesOf loseRequest s = alike (s .laptop) (s .memory) (s .dock) refl (fate-again (s .fate)) refl
+step-clear modesOf loseRequest s = alike (s .highest) (s .laptop) (s .memory) (s .dock) refl (fate-again (s .fate)) refl
 step-clear modesOf (reach out) s = reaches-same out (s .way) (s .fate) s
 step-clear modesOf (answer policy out) s = answers-same modesOf policy out (s .dock .standing) s
 step-clear modesOf loseAnswer s = lose-answer-same (s .fate) s

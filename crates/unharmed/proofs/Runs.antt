@@ -7,9 +7,10 @@ use mathlib.Core.List.{List, [], _∷_}
 use Prim.Native.Nat.{ℕ}
 use lib.Dec.{eqb}
 use lib.ListN.{length}
-use Rattle.messages.specs.Layout.{Message, messageBytes}
+use Rattle.messages.specs.Layout.{Message, messageBytes, messageLength}
 use Rattle.messages.specs.Reading.{Outcome, accepted, readOutcome}
 use Rattle.messages.specs.Writing.{writeRefusal}
+use Rattle.messages.specs.declared.edition.Edition.{Edition}
 use Rattle.dock.specs.declared.Dock.{Dock}
 use Rattle.dock.specs.declared.Policy.{Policy}
 use Rattle.dock.specs.declared.Standing.{Standing}
@@ -37,22 +38,22 @@ use Rattle.unharmed.proofs.Course.{Carried, nothing, underWay, sure, ar
 use Rattle.unharmed.proofs.Invariant.{messageOf, fateOf, systemOf, Reached}
 
 module _ (modesOf : ℕ → List ℕ) (d : Dock) (meets : Meets modesOf d) (old : Holding) where
-  step-ok : (e : Event) (l : Laptop) (m : Memory) (way : Way) (q : ℕ) (t : Standing) (v : Carried) (z : ℕ) → Inv modesOf d old l m way q t v z →
-      Reached modesOf d old (step modesOf e (systemOf modesOf d old l m way q t v z))
+  step-ok : (h at : Edition) (e : Event) (l : Laptop) (m : Memory) (way : Way) (q : ℕ) (t : Standing) (v : Carried) (z : ℕ) →
+      Inv modesOf d old l m way q t v z → Reached modesOf d old (step modesOf e (systemOf modesOf d old h at l m way q t v z))
   unfolding step
-  step-ok (calls c out) l m way q t v z i = call-ok modesOf d old l m way q t v z i out c
-  step-ok loseRequest l m way q t v z i = lose-request modesOf d old l m way q t v z i
-  step-ok (reach out) l m way q t v z i = reach-ok modesOf d old l m way q t v z i out
-  step-ok (answer policy out) l m way q t v z i = answer-ok modesOf d old l m way q t v z i policy out
-  step-ok loseAnswer l m way q t v z i = lose-ok modesOf d old l m way q t v z i
-  step-ok arrive l m way q t v z i = arrive-ok modesOf d meets old l m way q t v z i
-  step-ok sent l m way q t v z i = sent-ok modesOf d old l m way q t v z i
-  step-ok failed l m way q t v z i = failed-ok modesOf d old l m way q t v z i
+  step-ok h at (calls c out) l m way q t v z i = call-ok modesOf d old h at l m way q t v z i out c
+  step-ok h at loseRequest l m way q t v z i = lose-request modesOf d old h at l m way q t v z i
+  step-ok h at (reach out) l m way q t v z i = reach-ok modesOf d old h at l m way q t v z i out
+  step-ok h at (answer policy out) l m way q t v z i = answer-ok modesOf d old h at l m way q t v z i policy out
+  step-ok h at loseAnswer l m way q t v z i = lose-ok modesOf d old h at l m way q t v z i
+  step-ok h at arrive l m way q t v z i = arrive-ok modesOf d meets old h at l m way q t v z i
+  step-ok h at sent l m way q t v z i = sent-ok modesOf d old h at l m way q t v z i
+  step-ok h at failed l m way q t v z i = failed-ok modesOf d old h at l m way q t v z i
 
   pub steps : (e : Event) (s : System) → Reached modesOf d old s → Reached modesOf d old (step modesOf e s)
   steps e s r =
       subst (λ (x : System). Reached modesOf d old (step modesOf e x)) (sym (r .is))
-      (step-ok e (s .laptop) (s .memory) (s .way) (r .page-at) (r .standing-at) (r .carried) (s .lost) (r .invariant))
+      (step-ok (s .highest) (r .edition-at) e (s .laptop) (s .memory) (s .way) (r .page-at) (r .standing-at) (r .carried) (s .lost) (r .invariant))
 
   pub runs : (events : List Event) (s : System) → Reached modesOf d old s → Reached modesOf d old (run modesOf events s)
   unfolding run
@@ -125,7 +126,7 @@ module _ (modesOf : ℕ → List ℕ) (start : System) where
   unfolding stepOf
   sent-or-left l after x room P went left = go (eqb (writeRefusal x room) 0)
     where
-      go : (b : Bool) → P ((cond b (sentBy (length (messageBytes x)) after) (refusedBy (writeRefusal x room) l)) .laptop)
+      go : (b : Bool) → P ((cond b (sentBy (messageLength x) after) (refusedBy (writeRefusal x room) l)) .laptop)
       go true = went
       go false = left
 
@@ -187,9 +188,9 @@ module _ (modesOf : ℕ → List ℕ) (start : System) where
       made protocolError out s _ (decided-does (s .laptop) (s .memory) protocolError _ (length out) (error-is (s .laptop) (s .memory) f)) refl refl
 
   -- an answer arrives
-  last-is : (l : Laptop) (o : Outcome) (x : Message) → o ≡ accepted x → isLastOutcome l o ≡ isLastHead l (x .head)
+  last-is : (l : Laptop) (o : Outcome) (at : Edition) (x : Message) → o ≡ accepted at x → isLastOutcome l o ≡ isLastHead l (x .head)
   unfolding isLastOutcome
-  last-is l o x e = rw e
+  last-is l o at x e = rw e
 
   abbrev HeardDoes : System → List ℕ → Message → Type 0
   HeardDoes s bytes x =
@@ -204,10 +205,10 @@ module _ (modesOf : ℕ → List ℕ) (start : System) where
       ((heard (s .laptop) (s .memory) (readOutcome bytes) .step .refusal ≡ 0) ⊎
       ((heard (s .laptop) (s .memory) (readOutcome bytes) .step .refusal ≡ 6) ⊎ (heard (s .laptop) (s .memory) (readOutcome bytes) .step .refusal ≡ 14)))
 
-  arrived-does : (s : System) (bytes : List ℕ) (x : Message) → onWay (s .fate) ≡ some bytes → readOutcome bytes ≡ accepted x →
+  arrived-does : (s : System) (bytes : List ℕ) (at : Edition) (x : Message) → onWay (s .fate) ≡ some bytes → readOutcome bytes ≡ accepted at x →
       step modesOf arrive s .laptop ≡ heard (s .laptop) (s .memory) (readOutcome bytes) .step .laptop →
       step modesOf arrive s .memory ≡ heard (s .laptop) (s .memory) (readOutcome bytes) .after → HeardDoes s bytes x → Does arrive s
-  arrived-does s bytes x way read el em f =
+  arrived-does s bytes at x way read el em f =
       record {
         replaces = (λ b. ap heldIn (ap₂ holding el em) ∙ f .0 (sym same ∙ b), λ b. ap₂ holding el em ∙ f .1 (sym same ∙ b));
         ends-by = λ n y. ended-by (f .2 n (ap (λ (l : Laptop). isAbsent (l .candidate)) (sym el) ∙ y));
@@ -215,7 +216,7 @@ module _ (modesOf : ℕ → List ℕ) (start : System) where
       }
     where
       same : isLastAnswer arrive s ≡ isLastHead (s .laptop) (x .head)
-      same = ap (isLastOf (s .laptop)) way ∙ last-is (s .laptop) (readOutcome bytes) x read
+      same = ap (isLastOf (s .laptop)) way ∙ last-is (s .laptop) (readOutcome bytes) at x read
 
       refused : refusalOf s (onWay (s .fate)) ≡ heard (s .laptop) (s .memory) (readOutcome bytes) .step .refusal
       refused = ap (refusalOf s) way
@@ -224,33 +225,33 @@ module _ (modesOf : ℕ → List ℕ) (start : System) where
           ((isLatePage (s .laptop) (x .head) ≡ true) ⊎ (heard (s .laptop) (s .memory) (readOutcome bytes) .step .refusal ≡ 14)) →
           (isLastAnswer arrive s ≡ true) ⊎ Ending s arrive
       ended-by (inl e) = inl (same ∙ e)
-      ended-by (inr (inl e)) = inr (by-late-page bytes x way read e)
+      ended-by (inr (inl e)) = inr (by-late-page bytes at x way read e)
       ended-by (inr (inr e)) = inr (by-fourteen (refused ∙ e))
 
   -- each event, at a state that a run reaches
   module _ (d : Dock) (old : Holding) (same : whole modesOf (start .dock) ≡ whole modesOf d) (meets : Meets modesOf d) where
-    event-does : (e : Event) (l : Laptop) (m : Memory) (way : Way) (q : ℕ) (t : Standing) (v : Carried) (z : ℕ) → Inv modesOf d old l m way q t v z →
-        Does e (systemOf modesOf d old l m way q t v z)
+    event-does : (h at : Edition) (e : Event) (l : Laptop) (m : Memory) (way : Way) (q : ℕ) (t : Standing) (v : Carried) (z : ℕ) →
+        Inv modesOf d old l m way q t v z → Does e (systemOf modesOf d old h at l m way q t v z)
     unfolding step
-    event-does (calls c out) l m way q t v z i = call-does c out _ (i .formed)
-    event-does loseRequest l m way q t v z i = aside-does loseRequest _ (refl, refl) refl refl
-    event-does (reach out) l m way q t v z i = aside-does (reach out) _ (reaches-aside _ out way (fateOf modesOf d v)) refl refl
-    event-does (answer policy out) l m way q t v z i = aside-does (answer policy out) _ (answers-aside _ modesOf policy out t) refl refl
-    event-does loseAnswer l m way q t v z i = aside-does loseAnswer _ (loses-aside _ (fateOf modesOf d v)) refl refl
-    event-does sent l m way q t v z i = aside-does sent _ (sent-aside _ t (fateOf modesOf d v)) refl refl
-    event-does failed l m way q t v z i = aside-does failed _ (failed-aside _ t) refl refl
-    event-does arrive l m way q t nothing z i = aside-does arrive _ (refl, refl) refl refl
-    event-does arrive l m way q t (arrived b) z i = aside-does arrive _ (refl, refl) refl refl
-    event-does arrive l m way q t (underWay a) z i =
-        let f = timely-landed modesOf d meets old l m way q t z a i in
-        arrived-does _ (messageBytes (messageOf modesOf d a)) (messageOf modesOf d a) refl (answer-read modesOf d meets a (i .fate-fits .1)) refl refl
+    event-does h at (calls c out) l m way q t v z i = call-does c out _ (i .formed)
+    event-does h at loseRequest l m way q t v z i = aside-does loseRequest _ (refl, refl) refl refl
+    event-does h at (reach out) l m way q t v z i = aside-does (reach out) _ (reaches-aside _ out way (fateOf modesOf d at v)) refl refl
+    event-does h at (answer policy out) l m way q t v z i = aside-does (answer policy out) _ (answers-aside _ modesOf policy out t) refl refl
+    event-does h at loseAnswer l m way q t v z i = aside-does loseAnswer _ (loses-aside _ (fateOf modesOf d at v)) refl refl
+    event-does h at sent l m way q t v z i = aside-does sent _ (sent-aside _ t (fateOf modesOf d at v)) refl refl
+    event-does h at failed l m way q t v z i = aside-does failed _ (failed-aside _ t) refl refl
+    event-does h at arrive l m way q t nothing z i = aside-does arrive _ (refl, refl) refl refl
+    event-does h at arrive l m way q t (arrived b) z i = aside-does arrive _ (refl, refl) refl refl
+    event-does h at arrive l m way q t (underWay a) z i =
+        let f = timely-landed modesOf d meets old at l m way q t z a i in
+        arrived-does _ (messageBytes at (messageOf modesOf d a)) at (messageOf modesOf d a) refl (answer-read modesOf d meets at a (i .fate-fits .1)) refl refl
         (λ b. f .new-lands b ∙ ap holds (sym same), f .old-lands, f .end-lands, f .refusal-lands)
-    event-does arrive l m way q t (sure a) z i =
-        let f = sure-landed modesOf d meets old l m way q t z a i in
-        arrived-does _ (messageBytes (messageOf modesOf d a)) (messageOf modesOf d a) refl (answer-read modesOf d meets a (i .fate-fits .1)) refl refl
+    event-does h at arrive l m way q t (sure a) z i =
+        let f = sure-landed modesOf d meets old at l m way q t z a i in
+        arrived-does _ (messageBytes at (messageOf modesOf d a)) at (messageOf modesOf d a) refl (answer-read modesOf d meets at a (i .fate-fits .1)) refl refl
         (λ b. f .new-lands b ∙ ap holds (sym same), f .old-lands, f .end-lands, f .refusal-lands)
 
     pub does : (e : Event) (s : System) → Reached modesOf d old s → Does e s
     does e s r =
         subst (Does e) (sym (r .is))
-        (event-does e (s .laptop) (s .memory) (s .way) (r .page-at) (r .standing-at) (r .carried) (s .lost) (r .invariant))
+        (event-does (s .highest) (r .edition-at) e (s .laptop) (s .memory) (s .way) (r .page-at) (r .standing-at) (r .carried) (s .lost) (r .invariant))

@@ -19,7 +19,7 @@ fateWith change (came b) = came b
 
 abbrev pub systemWith : (List ℕ → List ℕ) → System → System
 systemWith change s =
-    record { laptop = s .laptop; memory = s .memory; way = wayWith change (s .way); fate = fateWith change (s .fate); dock = s .dock; lost = s .lost }
+    record { laptop = s .laptop; memory = s .memory; way = wayWith change (s .way); fate = fateWith change (s .fate); dock = s .dock; highest = s .highest; lost = s .lost }
 
 -- the same but for bit 5 of what is on its way
 abbrev pub Alike : System → System → Type 0

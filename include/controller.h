@@ -18,7 +18,8 @@
  *   changes it: 8 and 14 drop the side's candidate and end the wait, and a page so refused stays counted; 6 drops the side's candidate for a late page.
  *
  * Numbers. Any numbers are taken, so no call needs a check before it. A side other than 1 counts as the partner. In a state an unknown tag counts as 0,
- * and of a number that is a byte the low eight bits count. A mode count over 6 counts as 6, and of a set of entered modes the low six bits count.
+ * an unknown edition as 2.1, and of a number that is a byte the low eight bits count. A mode count over 6 counts as 6, and of a set of entered modes the
+ * low six bits count.
  * Ill-formed numbers of a state stay until a call writes it: the laptop's one that changes what they stand for, the dock's one that is accepted.
  */
 #ifndef CONTROLLER_H
@@ -39,8 +40,8 @@ typedef uint64_t controller_count;
 #define CONTROLLER_RUN_WORDS 432        /* least words of a run: SVID i, counted from 0, has words 6 i to 6 i + 5 */
 #define CONTROLLER_MESSAGE_BYTES 28     /* most bytes of a message; a request that the laptop sends has 4 */
 #define CONTROLLER_CATALOGUE_BYTES 2402 /* most bytes of a catalogue */
-#define CONTROLLER_DOCK_STATE 7         /* numbers of the dock's state */
-#define CONTROLLER_LAPTOP_STATE 20      /* numbers of the laptop's state */
+#define CONTROLLER_DOCK_STATE 8         /* numbers of the dock's state */
+#define CONTROLLER_LAPTOP_STATE 22      /* numbers of the laptop's state */
 #define CONTROLLER_HANDED 8             /* numbers that a laptop's call hands over */
 #define CONTROLLER_SIZES 3              /* numbers that catalogue_read hands over */
 
@@ -77,9 +78,12 @@ enum controller_command {
     CONTROLLER_ATTENTION = 6
 };
 
+/* Editions of Structured VDMs, as both states have them. Our highest is 2.1. */
+enum controller_edition { CONTROLLER_EDITION_1_0 = 10, CONTROLLER_EDITION_2_0 = 20, CONTROLLER_EDITION_2_1 = 21 };
+
 /* The dock ---------------------------------------------------------------------------------------------------------------------------------------- */
 
-/* Places in the dock's state. While asking, policy is to answer the request of the last three; else these are 0. */
+/* Places in the dock's state. While asking, policy is to answer the request of places 4 to 6; else these are 0. */
 enum controller_dock_state {
     CONTROLLER_DOCK_OBJECTS = 0,  /* how many identity objects are loaded: 0 or 3 to 6 */
     CONTROLLER_DOCK_COUNT = 1,    /* how many SVIDs are loaded: 0 to 72 */
@@ -87,7 +91,8 @@ enum controller_dock_state {
     CONTROLLER_DOCK_STANDING = 3, /* the tag of where it stands */
     CONTROLLER_DOCK_SVID = 4,
     CONTROLLER_DOCK_COMMAND = 5,
-    CONTROLLER_DOCK_POSITION = 6
+    CONTROLLER_DOCK_POSITION = 6,
+    CONTROLLER_DOCK_EDITION = 7   /* at which it answers: the lower of the last good request's edition and 2.1; fresh 2.1 */
 };
 
 enum controller_standing {
@@ -102,13 +107,14 @@ enum controller_policy { CONTROLLER_GIVE = 0, CONTROLLER_NAK = 1, CONTROLLER_BUS
 /* A fresh dock, ready and with nothing loaded. Writes all three arrays. */
 void dock_fresh(uint16_t state[CONTROLLER_DOCK_STATE], uint32_t identity[CONTROLLER_IDENTITY_OBJECTS], uint16_t svids[CONTROLLER_SVIDS]);
 
-/* Loads 3 to 6 identity objects and 0 to 72 SVIDs, none 0 and all different, and sets the page to 0. `length` becomes 0. Refused 9 unless ready, then 10. */
+/* Loads 3 to 6 identity objects and 0 to 72 SVIDs, none 0 and all different, and sets the page to 0; the edition stays. `length` becomes 0. Refused 9
+   unless ready, then 10. */
 uint8_t dock_load(uint16_t state[CONTROLLER_DOCK_STATE], uint32_t identity[CONTROLLER_IDENTITY_OBJECTS], uint16_t svids[CONTROLLER_SVIDS],
                   const uint32_t *new_identity, controller_count new_identity_count, const uint16_t *new_svids, controller_count new_svids_count,
                   uint8_t *length);
 
 /* A message that arrived. A request of commands 1 to 5 makes the dock ask policy, and `length` is 0; for one of command 0 or 7 to 31 a NAK is in `out`, to
-   be sent, and `length` is 4. A good request replaces one that waits or is being answered. Refused 1 to 6, 11. */
+   be sent, and `length` is 4. A good request replaces one that waits or is being answered, and sets the edition. Refused 1 to 6, 11. */
 uint8_t dock_message(uint16_t state[CONTROLLER_DOCK_STATE], const uint32_t identity[CONTROLLER_IDENTITY_OBJECTS], const uint16_t svids[CONTROLLER_SVIDS],
                      const uint8_t *bytes, controller_count bytes_count, uint8_t *out, controller_count out_count, uint8_t *length);
 
@@ -129,9 +135,9 @@ uint8_t dock_failed(uint16_t state[CONTROLLER_DOCK_STATE], const uint32_t identi
 /* The laptop -------------------------------------------------------------------------------------------------------------------------------------- */
 
 /*
- * Two sides, the port partner and the near cable plug, each with a candidate, a held catalogue, a page count and entered modes of its own. One wait is
- * shared by the two: while an answer is awaited from either side, an owner's call for either is refused 7. Else neither side hinders the other: entered
- * modes block discovery on their own side only, and a message is taken or refused by what is awaited from its own side.
+ * Two sides, the port partner and the near cable plug, each with a candidate, a held catalogue, a page count, entered modes and an edition of its own. One
+ * wait is shared by the two: while an answer is awaited from either side, an owner's call for either is refused 7. Else neither side hinders the other:
+ * entered modes block discovery on their own side only, and a message is taken or refused by what is awaited from its own side.
  */
 enum controller_side { CONTROLLER_PARTNER = 0, CONTROLLER_CABLE = 1 };
 
@@ -141,11 +147,11 @@ enum controller_laptop_state {
     CONTROLLER_LAPTOP_SVID = 1,
     CONTROLLER_LAPTOP_COMMAND = 2,
     CONTROLLER_LAPTOP_POSITION = 3,
-    CONTROLLER_LAPTOP_PARTNER = 4, /* the first of the partner's eight numbers */
-    CONTROLLER_LAPTOP_CABLE = 12   /* the first of the cable's eight numbers */
+    CONTROLLER_LAPTOP_PARTNER = 4, /* the first of the partner's nine numbers */
+    CONTROLLER_LAPTOP_CABLE = 13   /* the first of the cable's nine numbers */
 };
 
-/* Places in the eight numbers of a side. */
+/* Places in the nine numbers of a side. */
 enum controller_side_state {
     CONTROLLER_SIDE_CANDIDATE = 0, /* 0 none, 1 its list is open, 2 its list is done; without one the next three mean nothing */
     CONTROLLER_SIDE_OBJECTS = 1,   /* its identity objects */
@@ -154,7 +160,8 @@ enum controller_side_state {
     CONTROLLER_SIDE_PAGES = 4,     /* the pages counted since Identity was last asked */
     CONTROLLER_SIDE_HELD = 5,      /* 0 nothing, 1 a catalogue with as many as the next two say, which are else 0 */
     CONTROLLER_SIDE_HELD_OBJECTS = 6,
-    CONTROLLER_SIDE_HELD_COUNT = 7
+    CONTROLLER_SIDE_HELD_COUNT = 7,
+    CONTROLLER_SIDE_EDITION = 8    /* of what is sent: 2.1 with Identity and from then on; from the ACK of it on the lower of the ACK's edition and 2.1 */
 };
 
 /* Places in `handed`: what to send, and what to tell policy. What is not handed over is 0. */

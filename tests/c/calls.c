@@ -150,7 +150,7 @@ static unsigned set_runs(void) {
     return CONTROLLER_ACCEPTED;
 }
 
-/* Ill-formed numbers that count as those that stood there: a tag of 0 becomes an unknown one, and bytes get bits above their eight. */
+/* Ill-formed numbers that count as those that stood there: a tag of 0 and an edition of 2.1 become unknown ones, and bytes get bits above their eight. */
 static void stray_tags(uint16_t *state, const int *tags, size_t count) {
     for (size_t i = 0; i < count; i++)
         if (state[tags[i]] == 0) state[tags[i]] = 0x0901;
@@ -160,10 +160,16 @@ static void stray_bytes(uint16_t *state, const int *bytes, size_t count) {
     for (size_t i = 0; i < count; i++) state[bytes[i]] |= 0x5A00;
 }
 
+/* The low eight bits of the unknown one are those of 1.0: they do not count. */
+static void stray_edition(uint16_t *edition) {
+    if (*edition == CONTROLLER_EDITION_2_1) *edition = 0x0900 | CONTROLLER_EDITION_1_0;
+}
+
 static void stray_side(struct side *s, uint16_t *numbers) {
     static const int tags[] = {CONTROLLER_SIDE_CANDIDATE, CONTROLLER_SIDE_HELD}, bytes[] = {1, 2, 3, 4, 6, 7};
     stray_tags(numbers, tags, 2);
     stray_bytes(numbers, bytes, 6);
+    stray_edition(numbers + CONTROLLER_SIDE_EDITION);
     for (int i = 0; i < CONTROLLER_SVIDS; i++) {
         s->entered[i] |= 0xC0;
         if (s->modes[i] == CONTROLLER_MODES) s->modes[i] = 250;
@@ -177,6 +183,7 @@ static unsigned stray(void) {
     struct laptop *l = &lent.laptop;
     stray_tags(lent.dock.state, dock_tags, 1);
     stray_bytes(lent.dock.state, dock_bytes, 5);
+    stray_edition(lent.dock.state + CONTROLLER_DOCK_EDITION);
     stray_tags(l->state, laptop_tags, 1);
     stray_bytes(l->state, laptop_bytes, 2);
     stray_side(&l->partner, l->state + CONTROLLER_LAPTOP_PARTNER);

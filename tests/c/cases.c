@@ -10,6 +10,7 @@
 #include <string.h>
 
 #define PD_SID 0xFF00
+/* At 2.0. */
 #define REQUEST(svid, command) ((uint32_t)(svid) << 16 | 0xA000u | (command))
 #define ACK(svid, command) (REQUEST(svid, command) | 0x40u)
 
@@ -93,7 +94,7 @@ static uint8_t hear(uint8_t side, const struct message *message) {
                           s->held_modes, s->held_identity, s->held_run, CONTROLLER_RUN_WORDS, s->entered, laptop.handed);
 }
 
-/* The number at a place in the eight of a side. */
+/* The number at a place in the nine of a side. */
 static unsigned number(uint8_t side, enum controller_side_state place) {
     return laptop.state[(side == CONTROLLER_CABLE ? CONTROLLER_LAPTOP_CABLE : CONTROLLER_LAPTOP_PARTNER) + place];
 }

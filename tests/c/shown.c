@@ -7,9 +7,12 @@
 #include <stdio.h>
 #include <string.h>
 
-/* A state's number as it counts: a tag up to the greatest there is, a byte's eight bits. */
+/* A state's number as it counts: a tag up to the greatest there is, a byte's eight bits, an edition. */
 static unsigned tag(uint16_t value, unsigned greatest) { return value > greatest ? 0 : value; }
 static unsigned byte(uint16_t value) { return value & 0xFF; }
+static unsigned edition(uint16_t value) {
+    return value == CONTROLLER_EDITION_1_0 || value == CONTROLLER_EDITION_2_0 ? value : CONTROLLER_EDITION_2_1;
+}
 
 static void print_request(const uint16_t *state) { printf(" %04X %u %u", state[0], byte(state[1]), byte(state[2])); }
 
@@ -21,6 +24,7 @@ static void print_dock(void) {
     printf(", state %u %u %u %s", byte(state[CONTROLLER_DOCK_OBJECTS]), byte(state[CONTROLLER_DOCK_COUNT]), byte(state[CONTROLLER_DOCK_PAGE]),
            standings[standing]);
     if (standing == CONTROLLER_ASKING) print_request(state + CONTROLLER_DOCK_SVID);
+    printf(" %u", edition(state[CONTROLLER_DOCK_EDITION]));
 }
 
 /* A number that stands for nothing is a dash. */
@@ -33,6 +37,7 @@ static void print_side(const char *name, const uint16_t *numbers) {
     printf(" %u", byte(numbers[CONTROLLER_SIDE_PAGES]));
     if (tag(numbers[CONTROLLER_SIDE_HELD], 1)) printf(" 1 %u %u", byte(numbers[CONTROLLER_SIDE_HELD_OBJECTS]), byte(numbers[CONTROLLER_SIDE_HELD_COUNT]));
     else printf(" 0 - -");
+    printf(" %u", edition(numbers[CONTROLLER_SIDE_EDITION]));
 }
 
 static void print_laptop(void) {

@@ -16,11 +16,13 @@ PUBLIC = re.compile(r"^pub (?:use \w+::|fn )([a-z]\w*)", re.MULTILINE)
 PARTS = {
     f"{crate}::{name}"
     for crate, names in (
-        ("port", "seen"),
-        ("dock", "refused accepted standing_at send send_bare"),
+        ("port", "seen stepped_on"),
+        ("dock", "refused accepted standing_at spoken_at send send_bare"),
     )
     for name in names.split()
 }
+# A call that an exported function makes part by part.
+MADE_OF = {"port::message": ("hearing::message(", "stepped_on(")}
 ENDS = ("dock", "loading", "receiving", "answering", "confirming", "port")
 
 
@@ -59,7 +61,7 @@ def complaints(root, exported, library):
     """What is missing: a public call that nothing exports, or an exported function that the library lacks."""
     text = sources(root, "controller")
     for call in public_calls(root):
-        if call not in PARTS and f"{call}(" not in text:
+        if call not in PARTS and not all(part in text for part in MADE_OF.get(call, (f"{call}(",))):
             yield f"{call} is public, and the crate controller does not export it"
     for name in exported:
         if name not in library.functions:

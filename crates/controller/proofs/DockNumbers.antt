@@ -4,13 +4,15 @@ use mathlib.Core.Bool.{Bool, true, false}
 use mathlib.Core.List.{List, [], _∷_}
 use Prim.Native.Nat.{ℕ, _<_}
 use lib.ListN.{getD}
+use Rattle.messages.specs.Editions.{editionNumber}
+use Rattle.messages.specs.declared.edition.Edition.{Edition}
 use Rattle.messages.specs.declared.request.Request.{Request}
 use Rattle.dock.specs.declared.Dock.{Dock}
 use Rattle.dock.specs.declared.Standing.{Standing}
 use Rattle.dock.specs.declared.Standing.the-variants.{Ready, Asking, Sending}
-use Rattle.controller.specs.Port.{lowByte, requestFrom}
+use Rattle.controller.specs.Port.{lowByte, requestFrom, editionFrom}
 use Rattle.controller.specs.Dock.{standingFrom, dockFrom, standingNumbers, numbersWith, dockNumbers}
-use Rattle.controller.proofs.PortNumbers.{byte-again}
+use Rattle.controller.proofs.PortNumbers.{byte-again, edition-again}
 
 pub sending-page : (s : Standing) (isPage : Bool) → s ≡ Sending isPage → isPage ≡ true → (3 ∷ 0 ∷ 0 ∷ 0 ∷ []) ≡ standingNumbers s
 sending-page s isPage es ep = rw (es, ep)
@@ -18,16 +20,19 @@ sending-page s isPage es ep = rw (es, ep)
 pub sending-other : (s : Standing) (isPage : Bool) → s ≡ Sending isPage → isPage ≡ false → (2 ∷ 0 ∷ 0 ∷ 0 ∷ []) ≡ standingNumbers s
 sending-other s isPage es ep = rw (es, ep)
 
-pub dock-is : (s identity svids : List ℕ) (request : Request) (extent count page : ℕ) (standing : Standing) →
+pub dock-is : (s identity svids : List ℕ) (request : Request) (extent count page : ℕ) (standing : Standing) (edition : Edition) →
     extent ≡ lowByte (getD s 0 0) → count ≡ lowByte (getD s 1 0) → page ≡ lowByte (getD s 2 0) →
     standing ≡ standingFrom (getD s 3 0) request → request ≡ requestFrom (getD s 4 0) (getD s 5 0) (getD s 6 0) →
-    _≡_ {A = Dock} (record { identity = identity; extent = extent; svids = svids; count = count; page = page; standing = standing }) (dockFrom s identity svids)
+    edition ≡ editionFrom (getD s 7 0) →
+    _≡_ {A = Dock} (record { identity = identity; extent = extent; svids = svids; count = count; page = page; edition = edition; standing = standing })
+    (dockFrom s identity svids)
 unfolding dockFrom
-dock-is s identity svids request extent count page standing eo ec ep es er = rw (eo, ec, ep, es, er)
+dock-is s identity svids request extent count page standing edition eo ec ep es er ed = rw (eo, ec, ep, es, er, ed)
 
-pub numbers-are : (d : Dock) (standing : List ℕ) → standing ≡ standingNumbers (d .standing) → numbersWith standing d ≡ dockNumbers d
+pub numbers-are : (d : Dock) (standing : List ℕ) (edition : ℕ) → standing ≡ standingNumbers (d .standing) → edition ≡ editionNumber (d .edition) →
+    numbersWith standing edition d ≡ dockNumbers d
 unfolding dockNumbers
-numbers-are d standing e = rw e
+numbers-are d standing edition e f = rw (e, f)
 
 -- a state whose bytes are bytes, as that of every dock is
 abbrev pub StandingFits : Standing → Type 0
@@ -52,4 +57,4 @@ standing-again (Sending false) h = refl
 pub from-numbers : (d : Dock) → Fits d → dockFrom (dockNumbers d) (d .identity) (d .svids) ≡ d
 unfolding dockFrom dockNumbers
 from-numbers d h =
-    rw (byte-again (d .extent) (h .extent-fits), byte-again (d .count) (h .count-fits), byte-again (d .page) (h .page-fits), standing-again (d .standing) (h .standing-fits))
+    rw (byte-again (d .extent) (h .extent-fits), byte-again (d .count) (h .count-fits), byte-again (d .page) (h .page-fits), standing-again (d .standing) (h .standing-fits), edition-again (d .edition))

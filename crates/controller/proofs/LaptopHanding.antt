@@ -10,16 +10,17 @@ use Rattle.laptop.specs.Calls.{Decision}
 use Rattle.laptop.specs.Marks.{reported}
 use Rattle.laptop.specs.State.{Memory, LentMemory}
 use Rattle.laptop.specs.declared.Laptop.{Laptop}
+use Rattle.laptop.specs.declared.Step.{Step as Laptop·Step}
 use Rattle.hearing.specs.Hearing.{heard}
 use Rattle.catalogue.specs.Bytes.{HeldCatalogue, heldCatalogue, CatalogueWritten}
 use Rattle.catalogue.specs.declared.Bytes.{Bytes}
-use Rattle.port.specs.Calls.{HearsOn, Owners, concerning}
+use Rattle.port.specs.Calls.{Owners, concerning}
 use Rattle.port.specs.Sides.{ownOf, seen, steppedOn}
 use Rattle.port.specs.declared.Port.{Port}
 use Rattle.port.specs.declared.Side.{Side}
 use Rattle.port.specs.declared.Step.{Step}
 use Rattle.controller.specs.CatalogueCall.{CatalogueCall}
-use Rattle.controller.specs.LaptopCalls.{LaptopStep, LaptopSendsNothing, LaptopSends, LaptopHears}
+use Rattle.controller.specs.LaptopCalls.{LaptopStep, LaptopSendsNothing, LaptopSends, HeardOn, LaptopHears}
 use Rattle.controller.specs.Port.{sideNumber, portFrom, portNumbers, numbersAfter}
 use Rattle.controller.specs.Told.{toldNumbers, handedNumbers}
 use Rattle.laws.specs.Lent.{Lent, lent, left, accepted}
@@ -61,9 +62,14 @@ module _ {step : Step} {number : ℕ} {state handed : Lent (List ℕ)} (put : le
       let owners = carried (λ (x : Side) (q : Port). Owners x q decide run heldRun (lent out) step (left out)) e f s in
       record { step-is = step-in _ (owners .step-is); buffer-is = owners .buffer-is }
 
-  pub hears-in : {side : Side} {bytes : List ℕ} {memory : LentMemory} → HearsOn side (portFrom (lent state)) bytes memory step →
-      LaptopHears side bytes number state memory handed
-  hears-in s = record { step-is = step-in _ (s .0); memory-is = s .1 }
+  pub hears-in : {side side' : Side} {p : Port} → side ≡ side' → p ≡ portFrom (lent state) → {bytes : List ℕ} {memory : LentMemory} {one : Laptop·Step} →
+      HeardOn side' bytes (lent state) memory one → step ≡ steppedOn side p one → LaptopHears side' bytes number state memory handed
+  hears-in {side' = side'} e f {one = one} h s =
+      record {
+        step-is =
+            step-in _ (carried (λ (x : Side) (q : Port). step ≡ steppedOn x q one) e f s ∙ ap (steppedOn side' (portFrom (lent state))) (h .0));
+        memory-is = h .1;
+      }
 
 -- what is handed over names the side
 pub handed-as : (step : Step) {side : ℕ} {numbers : List ℕ} → side ≡ sideNumber (step .side) → numbers ≡ toldNumbers (step .length) (step .told) side →
@@ -91,11 +97,12 @@ module _ {held : HeldCatalogue} {run : List ℕ} {out : Lent (List ℕ)} {bytes 
 
 -- a message, the report, and the catalogue that is held, of the side
 module _ {side side' : Side} {p p' : Port} (side-is : side ≡ side') (port-is : p ≡ p') where
-  pub heard-as : (before : Memory) (o : Outcome) {after : Memory} {step : Step} →
-      (step ≡ steppedOn side p (heard (seen side p) before o .step)) × (after ≡ heard (seen side p) before o .after) →
-      (step ≡ steppedOn side' p' (heard (seen side' p') before o .step)) × (after ≡ heard (seen side' p') before o .after)
-  heard-as before o {after} {step} =
-      carried (λ (x : Side) (q : Port). (step ≡ steppedOn x q (heard (seen x q) before o .step)) × (after ≡ heard (seen x q) before o .after)) side-is port-is
+  pub heard-as : {l : Laptop} → l ≡ seen side p → (before : Memory) (o : Outcome) {after : Memory} {step : Laptop·Step} →
+      (step ≡ heard l before o .step) × (after ≡ heard l before o .after) →
+      (step ≡ heard (seen side' p') before o .step) × (after ≡ heard (seen side' p') before o .after)
+  heard-as sees before o {after} {step} h =
+      let is : Laptop → Type 0 = λ x. (step ≡ heard x before o .step) × (after ≡ heard x before o .after) in
+      carried (λ (x : Side) (q : Port). is (seen x q)) side-is port-is (subst is sees h)
 
   pub report-as : (svids entered : List ℕ) (svid : ℕ) {n : ℕ} → n ≡ reported (ownOf side p .held) svids entered svid →
       n ≡ reported (ownOf side' p' .held) svids entered svid

@@ -8,6 +8,7 @@ use native.Mathlib.Omega.{arith}
 use lib.Dec.{eqb}
 use lib.ListN.{length, length-append}
 use borrow.Author.Tests.{eq-eqb, ne-eqb, not-true, not-false}
+use Rattle.messages.specs.Editions.{editionNumber}
 use Rattle.messages.specs.Requests.{sameRequest}
 use Rattle.messages.specs.declared.request.Request.{Request}
 use Rattle.taking.specs.Taking.{sameList}
@@ -21,7 +22,7 @@ use Rattle.port.specs.declared.Side.{Side}
 use Rattle.port.specs.declared.Wait.{Wait}
 use Rattle.port.specs.declared.Wait.the-variants.{Nothing, Answer}
 use Rattle.controller.specs.Port.{waitIn, ownFrom, portFrom, sideNumber, candidateNumber, waitNumbers, heldNumbers, ownNumbers, portNumbers}
-use Rattle.controller.proofs.PortNumbers.{wait-length, own-length}
+use Rattle.controller.proofs.PortNumbers.{wait-length, held-length, own-length}
 
 -- two sizes
 module _ (a b : Size) where
@@ -73,15 +74,36 @@ module _ (g h : Held) where
   unfolding sameList
   both-hold {a} {b} e f = rw (e, f, and-true (eqb (a .count) (b .count)))
 
--- what a side has of its own: five tests, one after the other
+-- lists behind lists of one length
+same-behind : (k l m n : List ℕ) → length k ≡ length l → sameList (k ++ m) (l ++ n) ≡ (sameList k l && sameList m n)
+unfolding sameList
+same-behind [] [] m n e = refl
+same-behind [] (y ∷ l) m n e = absurd (suc-ne-zero _ (sym e))
+same-behind (x ∷ k) [] m n e = absurd (suc-ne-zero _ e)
+same-behind (x ∷ k) (y ∷ l) m n e =
+    ap (λ (t : Bool). eqb x y && t) (same-behind k l m n (suc-inj e)) ∙ sym (and-assoc (eqb x y) (sameList k l) (sameList m n))
+
+held-parts : (a b : Own) →
+    sameList (heldNumbers (a .held) ++ (editionNumber (a .edition) ∷ [])) (heldNumbers (b .held) ++ (editionNumber (b .edition) ∷ [])) ≡
+    (sameList (heldNumbers (a .held)) (heldNumbers (b .held)) && eqb (editionNumber (a .edition)) (editionNumber (b .edition)))
+unfolding sameList
+held-parts a b =
+    same-behind (heldNumbers (a .held)) (heldNumbers (b .held)) _ _ (held-length (a .held) ∙ sym (held-length (b .held))) ∙
+    ap (λ (t : Bool). sameList (heldNumbers (a .held)) (heldNumbers (b .held)) && t) (and-true (eqb (editionNumber (a .edition)) (editionNumber (b .edition))))
+
+-- what a side has of its own: six tests, one after the other
 own-parts : (a b : Own) → sameList (ownNumbers a) (ownNumbers b) ≡
     (eqb (candidateNumber (a .candidate)) (candidateNumber (b .candidate)) &&
     ((eqb (a .gathered .extent) (b .gathered .extent) && eqb (a .gathered .count) (b .gathered .count)) &&
-    (eqb (a .stored) (b .stored) && (eqb (a .pages) (b .pages) && sameList (heldNumbers (a .held)) (heldNumbers (b .held))))))
+    (eqb (a .stored) (b .stored) && (eqb (a .pages) (b .pages) &&
+    (sameList (heldNumbers (a .held)) (heldNumbers (b .held)) && eqb (editionNumber (a .edition)) (editionNumber (b .edition)))))))
 unfolding ownNumbers sameList
 own-parts a b =
     ap (λ (t : Bool). eqb (candidateNumber (a .candidate)) (candidateNumber (b .candidate)) && t)
-    (sym (and-assoc (eqb (a .gathered .extent) (b .gathered .extent)) (eqb (a .gathered .count) (b .gathered .count)) _))
+    (sym (and-assoc (eqb (a .gathered .extent) (b .gathered .extent)) (eqb (a .gathered .count) (b .gathered .count)) _) ∙
+    ap
+    (λ (t : Bool). (eqb (a .gathered .extent) (b .gathered .extent) && eqb (a .gathered .count) (b .gathered .count)) && (eqb (a .stored) (b .stored) && (eqb (a .pages) (b .pages) && t)))
+    (held-parts a b))
 
 module _ (a b : Own) {x y : ℕ} (first : x ≡ candidateNumber (a .candidate)) (second : y ≡ candidateNumber (b .candidate)) where
   pub other-candidate : (x ≡ y → ⊥) → false ≡ sameList (ownNumbers a) (ownNumbers b)
@@ -99,18 +121,14 @@ module _ (a b : Own) {x y : ℕ} (first : x ≡ candidateNumber (a .candidate)) 
         pub other-pages : (a .pages ≡ b .pages → ⊥) → false ≡ sameList (ownNumbers a) (ownNumbers b)
         other-pages h = rw (own-parts a b, ← first, ← second, eq-eqb x y candidates, ← size, not-false t sizes, eq-eqb _ _ stored, ne-eqb _ _ h)
 
-        pub only-held : a .pages ≡ b .pages → {r : Bool} → r ≡ sameList (heldNumbers (a .held)) (heldNumbers (b .held)) →
-            r ≡ sameList (ownNumbers a) (ownNumbers b)
-        only-held pages e = e ∙ sym (rw (own-parts a b, ← first, ← second, eq-eqb x y candidates, ← size, not-false t sizes, eq-eqb _ _ stored, eq-eqb _ _ pages))
+        module _ (pages : a .pages ≡ b .pages) {r : Bool} (held : r ≡ sameList (heldNumbers (a .held)) (heldNumbers (b .held))) where
+          pub other-held : not r ≡ true → false ≡ sameList (ownNumbers a) (ownNumbers b)
+          other-held h = rw (own-parts a b, ← first, ← second, eq-eqb x y candidates, ← size, not-false t sizes, eq-eqb _ _ stored, eq-eqb _ _ pages, ← held, not-true r h)
 
--- lists behind lists of one length
-same-behind : (k l m n : List ℕ) → length k ≡ length l → sameList (k ++ m) (l ++ n) ≡ (sameList k l && sameList m n)
-unfolding sameList
-same-behind [] [] m n e = refl
-same-behind [] (y ∷ l) m n e = absurd (suc-ne-zero _ (sym e))
-same-behind (x ∷ k) [] m n e = absurd (suc-ne-zero _ e)
-same-behind (x ∷ k) (y ∷ l) m n e =
-    ap (λ (t : Bool). eqb x y && t) (same-behind k l m n (suc-inj e)) ∙ sym (and-assoc (eqb x y) (sameList k l) (sameList m n))
+          pub only-edition : not r ≡ false → {u v : ℕ} → u ≡ editionNumber (a .edition) → v ≡ editionNumber (b .edition) →
+              eqb u v ≡ sameList (ownNumbers a) (ownNumbers b)
+          only-edition h e f =
+              rw (own-parts a b, ← first, ← second, eq-eqb x y candidates, ← size, not-false t sizes, eq-eqb _ _ stored, eq-eqb _ _ pages, ← held, not-false r h, e, f)
 
 port-parts : (a b : Port) → sameList (portNumbers a) (portNumbers b) ≡
     ((sameList (waitNumbers (a .wait)) (waitNumbers (b .wait)) && sameList (ownNumbers (a .partner)) (ownNumbers (b .partner))) &&
@@ -141,7 +159,7 @@ module _ (s : List ℕ) (p : Port) {w : Wait} {t : Bool} (wait-is : w ≡ waitIn
     unfolding portFrom
     other-partner h = rw (port-parts, wait-tested, not-false t same-wait, partner-tested, not-true u h)
 
-    pub only-cable : not u ≡ false → {other : Own} {r : Bool} → other ≡ ownFrom s 12 → r ≡ sameList (ownNumbers other) (ownNumbers (p .cable)) →
+    pub only-cable : not u ≡ false → {other : Own} {r : Bool} → other ≡ ownFrom s 13 → r ≡ sameList (ownNumbers other) (ownNumbers (p .cable)) →
         r ≡ sameList (portNumbers (portFrom s)) (portNumbers p)
     unfolding portFrom
     only-cable h cable-is e =

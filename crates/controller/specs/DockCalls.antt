@@ -30,7 +30,7 @@ pub record DockSends (decide : Dock → Decision) (number : ℕ) (state identity
 
 -- loading: on acceptance the identity and the SVIDs too
 abbrev pub loadStep : Dock → List ℕ → List ℕ → Step
-loadStep d identity svids = stepOf d (decideLoad (d .standing) identity svids) 0
+loadStep d identity svids = stepOf d (decideLoad d (d .standing) identity svids) 0
 
 pub record DockLoads (newIdentity newSvids : List ℕ) (number : ℕ) (state identity svids : Lent (List ℕ)) (bytes : Lent ℕ) : Type 0 where
   pub step-is : DockStep (loadStep (dockLent state identity svids) newIdentity newSvids) number state bytes

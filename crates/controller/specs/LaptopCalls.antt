@@ -8,6 +8,7 @@ use Rattle.messages.specs.Reading.{readOutcome}
 use Rattle.laptop.specs.Calls.{Decision, stepOf, bufferOf}
 use Rattle.laptop.specs.State.{Memory, LentMemory}
 use Rattle.laptop.specs.declared.Laptop.{Laptop}
+use Rattle.laptop.specs.declared.Step.{Step as Laptop·Step}
 use Rattle.hearing.specs.Hearing.{Result, heard}
 use Rattle.port.specs.Calls.{ownersDecision, concerning}
 use Rattle.port.specs.Sides.{seen, steppedOn}
@@ -41,6 +42,11 @@ pub record LaptopSends (side : Side) (decide : Laptop → Decision) (run heldRun
 -- a message from a side: all nine lent arrays and runs too
 abbrev pub hearing : Side → List ℕ → List ℕ → Memory → Result
 hearing side bytes state before = heard (seen side (portFrom state)) before (readOutcome bytes)
+
+-- what 01's message on the side comes to
+abbrev pub HeardOn : Side → List ℕ → List ℕ → LentMemory → Laptop·Step → Type 0
+HeardOn side bytes state memory step =
+    (step ≡ hearing side bytes state (memory .entry) .step) × (memory .exit ≡ hearing side bytes state (memory .entry) .after)
 
 pub record LaptopHears (side : Side) (bytes : List ℕ) (number : ℕ) (state : Lent (List ℕ)) (memory : LentMemory) (handed : Lent (List ℕ)) : Type 0 where
   pub step-is : LaptopStep (steppedOn side (portFrom (lent state)) (hearing side bytes (lent state) (memory .entry) .step)) number state handed

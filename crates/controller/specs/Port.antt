@@ -1,10 +1,13 @@
--- The laptop end's state as twenty numbers, and back. Any numbers are taken: of one that is to be a byte the low eight bits count, and one that says what
--- is awaited, gathered or held and is none of those below counts as nothing awaited, no candidate, nothing held.
+-- The laptop end's state as 22 numbers, and back. Any numbers are taken: of one that is to be a byte the low eight bits count, and one that says what
+-- is awaited, gathered or held, or an edition, and is none of those below counts as nothing awaited, no candidate, nothing held, 2.1.
 use Prim.Native.Nat.{ℕ, _+_, _%_}
 use mathlib.Core.Bool.{cond}
 use mathlib.Core.List.{List, [], _∷_, _++_}
 use lib.Dec.{eqb}
 use lib.ListN.{getD}
+use Rattle.messages.specs.Editions.{editionNumber}
+use Rattle.messages.specs.declared.edition.Edition.{Edition}
+use Rattle.messages.specs.declared.edition.Edition.the-variants.{OneZero, TwoZero, TwoOne}
 use Rattle.messages.specs.declared.request.Request.{Request}
 use Rattle.taking.specs.Taking.{sameList}
 use Rattle.laptop.specs.declared.Candidate.{Candidate}
@@ -34,6 +37,10 @@ sizeFrom extent count = record { extent = lowByte extent; count = lowByte count 
 abbrev pub sideFrom : ℕ → Side
 sideFrom number = cond (eqb number 1) Cable Partner
 
+-- 10 is 1.0, 20 is 2.0, any other 2.1
+abbrev pub editionFrom : ℕ → Edition
+editionFrom number = cond (eqb number 10) OneZero (cond (eqb number 20) TwoZero TwoOne)
+
 -- 1 an answer of the partner, 2 an answer of the cable, any other nothing
 abbrev pub waitFrom : ℕ → Request → Wait
 waitFrom tag request = cond (eqb tag 1) (Answer Partner request) (cond (eqb tag 2) (Answer Cable request) Nothing)
@@ -50,7 +57,7 @@ heldFrom tag size = cond (eqb tag 1) (Catalogue size) Held·Nothing
 unfoldable pub waitIn : List ℕ → Wait
 waitIn s = waitFrom (getD s 0 0) (requestFrom (getD s 1 0) (getD s 2 0) (getD s 3 0))
 
--- what a side has of its own, in the eight that begin at the place
+-- what a side has of its own, in the nine that begin at the place
 unfoldable pub ownFrom : List ℕ → ℕ → Own
 ownFrom s at =
     record {
@@ -59,10 +66,11 @@ ownFrom s at =
       stored = lowByte (getD s (at + 3) 0);
       pages = lowByte (getD s (at + 4) 0);
       held = heldFrom (getD s (at + 5) 0) (sizeFrom (getD s (at + 6) 0) (getD s (at + 7) 0));
+      edition = editionFrom (getD s (at + 8) 0);
     }
 
 unfoldable pub portFrom : List ℕ → Port
-portFrom s = record { wait = waitIn s; partner = ownFrom s 4; cable = ownFrom s 12 }
+portFrom s = record { wait = waitIn s; partner = ownFrom s 4; cable = ownFrom s 13 }
 
 -- 0 the partner, 1 the cable
 abbrev pub sideNumber : Side → ℕ
@@ -84,7 +92,8 @@ heldNumbers (Catalogue size) = 1 ∷ size .extent ∷ size .count ∷ []
 
 unfoldable pub ownNumbers : Own → List ℕ
 ownNumbers own =
-    candidateNumber (own .candidate) ∷ own .gathered .extent ∷ own .gathered .count ∷ own .stored ∷ own .pages ∷ heldNumbers (own .held)
+    candidateNumber (own .candidate) ∷ own .gathered .extent ∷ own .gathered .count ∷ own .stored ∷ own .pages ∷
+    heldNumbers (own .held) ++ (editionNumber (own .edition) ∷ [])
 
 unfoldable pub portNumbers : Port → List ℕ
 portNumbers p = waitNumbers (p .wait) ++ ownNumbers (p .partner) ++ ownNumbers (p .cable)

@@ -10,7 +10,7 @@ use crate::port_state::port_from;
 // Writes the catalogue that the side holds; `length` is the number of bytes written.
 #[no_mangle]
 pub extern "C" fn catalogue_write(
-    state: &[u16; 20],
+    state: &[u16; 22],
     side: u8,
     held_svids: &[u16; 72],
     held_modes: &[u8; 72],

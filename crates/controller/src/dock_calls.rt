@@ -26,7 +26,7 @@ fn policy_from(number: u8) -> Policy
 
 // A fresh dock.
 #[no_mangle]
-pub extern "C" fn dock_fresh(state: &mut [u16; 7], identity: &mut [u32; 6], svids: &mut [u16; 72])
+pub extern "C" fn dock_fresh(state: &mut [u16; 8], identity: &mut [u32; 6], svids: &mut [u16; 72])
     ensures { λ _. ⌜ (left state ≡ dockNumbers freshDock) × (left identity ≡ freshDock .identity) × (left svids ≡ freshDock .svids) ⌝ }
 {
     let dock = dock::fresh();
@@ -40,7 +40,7 @@ pub extern "C" fn dock_fresh(state: &mut [u16; 7], identity: &mut [u32; 6], svid
 
 #[no_mangle]
 pub extern "C" fn dock_load(
-    state: &mut [u16; 7],
+    state: &mut [u16; 8],
     identity: &mut [u32; 6],
     svids: &mut [u16; 72],
     new_identity: &[u32],
@@ -64,7 +64,7 @@ pub extern "C" fn dock_load(
 
 #[no_mangle]
 pub extern "C" fn dock_message(
-    state: &mut [u16; 7],
+    state: &mut [u16; 8],
     identity: &[u32; 6],
     svids: &[u16; 72],
     bytes: &[u8],
@@ -81,7 +81,7 @@ pub extern "C" fn dock_message(
 // Policy's answer: 1 NAK, 2 BUSY, any other give.
 #[no_mangle]
 pub extern "C" fn dock_policy_answer(
-    state: &mut [u16; 7],
+    state: &mut [u16; 8],
     identity: &[u32; 6],
     svids: &[u16; 72],
     policy: u8,
@@ -114,7 +114,7 @@ pub extern "C" fn dock_policy_answer(
 
 #[no_mangle]
 pub extern "C" fn dock_sent(
-    state: &mut [u16; 7],
+    state: &mut [u16; 8],
     identity: &[u32; 6],
     svids: &[u16; 72],
     length: &mut u8,
@@ -131,7 +131,7 @@ pub extern "C" fn dock_sent(
 
 #[no_mangle]
 pub extern "C" fn dock_failed(
-    state: &mut [u16; 7],
+    state: &mut [u16; 8],
     identity: &[u32; 6],
     svids: &[u16; 72],
     length: &mut u8,

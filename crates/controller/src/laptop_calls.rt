@@ -3,9 +3,8 @@ ghost use mathlib.Core.Path.{_≡_};
 ghost use lib.ListN.{replicate};
 ghost use Rattle.laptop.specs.Marks.{reported};
 ghost use Rattle.laptop.specs.State.{memoryLent};
-ghost use Rattle.port.specs.Calls.{HearsOn};
 ghost use Rattle.port.specs.Sides.{ownOf, freshPort};
-ghost use Rattle.controller.specs.LaptopCalls.{LaptopHears};
+ghost use Rattle.controller.specs.LaptopCalls.{HeardOn, LaptopHears};
 ghost use Rattle.controller.specs.Port.{sideFrom, portFrom, portNumbers};
 ghost use Rattle.laws.specs.Lent.{lent, left};
 use crate::numbers::side_from;
@@ -13,12 +12,13 @@ use crate::port_state::port_from;
 use crate::port_writing::put_port;
 use crate::port_writing::write_port;
 use crate::told::hand_over;
-use port::Step;
+use port::seen;
+use port::stepped_on;
 
 // A fresh laptop, on both sides.
 #[no_mangle]
 pub extern "C" fn laptop_fresh(
-    state: &mut [u16; 20],
+    state: &mut [u16; 22],
     partner_entered: &mut [u8; 72],
     cable_entered: &mut [u8; 72],
 )
@@ -27,9 +27,9 @@ pub extern "C" fn laptop_fresh(
     write_port(port::fresh(partner_entered, cable_entered), state);
 }
 
-// A function of its own: what it needs on the stack is free when the step is handed over.
+// A function of its own: what it needs on the stack is free when the step is handed over. The port is read anew then, and does not lie there meanwhile.
 fn hear(
-    state: &[u16; 20],
+    state: &[u16; 22],
     side: u8,
     bytes: &[u8],
     svids: &mut [u16; 72],
@@ -41,13 +41,12 @@ fn hear(
     held_identity: &mut [u32; 6],
     held_run: &mut [u32],
     entered: &mut [u8; 72],
-) -> Step
-    ensures { λ r. ⌜ HearsOn (sideFrom side) (portFrom (lent state)) (lent bytes)
+) -> laptop::Step
+    ensures { λ r. ⌜ HeardOn (sideFrom side) (lent bytes) (lent state)
         (memoryLent svids modes identity run «held_svids» «held_modes» «held_identity» «held_run» entered) r ⌝ }
 {
-    port::message(
-        port_from(state),
-        side_from(side),
+    hearing::message(
+        seen(side_from(side), port_from(state)),
         bytes,
         svids,
         modes,
@@ -64,7 +63,7 @@ fn hear(
 // A message from a side.
 #[no_mangle]
 pub extern "C" fn laptop_message(
-    state: &mut [u16; 20],
+    state: &mut [u16; 22],
     side: u8,
     bytes: &[u8],
     svids: &mut [u16; 72],
@@ -81,7 +80,7 @@ pub extern "C" fn laptop_message(
     ensures { λ r. ⌜ LaptopHears (sideFrom side) (lent bytes) r state
         (memoryLent svids modes identity run «held_svids» «held_modes» «held_identity» «held_run» entered) handed ⌝ }
 {
-    let step = hear(
+    let heard = hear(
         state,
         side,
         bytes,
@@ -95,6 +94,7 @@ pub extern "C" fn laptop_message(
         held_run,
         entered,
     );
+    let step = stepped_on(side_from(side), port_from(state), heard);
     let after = step.port;
     put_port(after, state);
     hand_over(step, handed)
@@ -103,7 +103,7 @@ pub extern "C" fn laptop_message(
 // How many modes of the SVID are entered on a side.
 #[no_mangle]
 pub extern "C" fn laptop_report(
-    state: &[u16; 20],
+    state: &[u16; 22],
     side: u8,
     svid: u16,
     held_svids: &[u16; 72],

@@ -11,7 +11,7 @@ use crate::told::hand_over;
 
 #[no_mangle]
 pub extern "C" fn laptop_next(
-    state: &mut [u16; 20],
+    state: &mut [u16; 22],
     side: u8,
     svids: &[u16; 72],
     entered: &[u8; 72],
@@ -40,7 +40,7 @@ pub extern "C" fn laptop_next(
 
 #[no_mangle]
 pub extern "C" fn laptop_start_over(
-    state: &mut [u16; 20],
+    state: &mut [u16; 22],
     side: u8,
     entered: &[u8; 72],
     run: &[u32],
@@ -67,7 +67,7 @@ pub extern "C" fn laptop_start_over(
 
 #[no_mangle]
 pub extern "C" fn laptop_drop(
-    state: &mut [u16; 20],
+    state: &mut [u16; 22],
     side: u8,
     run: &[u32],
     held_run: &[u32],
@@ -86,7 +86,7 @@ pub extern "C" fn laptop_drop(
 
 #[no_mangle]
 pub extern "C" fn laptop_enter(
-    state: &mut [u16; 20],
+    state: &mut [u16; 22],
     side: u8,
     svid: u16,
     position: u8,
@@ -121,7 +121,7 @@ pub extern "C" fn laptop_enter(
 
 #[no_mangle]
 pub extern "C" fn laptop_exit(
-    state: &mut [u16; 20],
+    state: &mut [u16; 22],
     side: u8,
     svid: u16,
     position: u8,

@@ -6,7 +6,7 @@ use crate::port_writing::put_port;
 use crate::told::hand_over;
 
 #[no_mangle]
-pub extern "C" fn laptop_response_timer(state: &mut [u16; 20], handed: &mut [u32; 8]) -> u8
+pub extern "C" fn laptop_response_timer(state: &mut [u16; 22], handed: &mut [u32; 8]) -> u8
     ensures { λ r. ⌜ LaptopSendsNothing (λ l. decideTimer 1 3 l (l .wait)) r state handed ⌝ }
 {
     let step = port::response_timer(port_from(state));
@@ -16,7 +16,7 @@ pub extern "C" fn laptop_response_timer(state: &mut [u16; 20], handed: &mut [u32
 }
 
 #[no_mangle]
-pub extern "C" fn laptop_entry_timer(state: &mut [u16; 20], handed: &mut [u32; 8]) -> u8
+pub extern "C" fn laptop_entry_timer(state: &mut [u16; 22], handed: &mut [u32; 8]) -> u8
     ensures { λ r. ⌜ LaptopSendsNothing (λ l. decideTimer 4 4 l (l .wait)) r state handed ⌝ }
 {
     let step = port::entry_timer(port_from(state));
@@ -26,7 +26,7 @@ pub extern "C" fn laptop_entry_timer(state: &mut [u16; 20], handed: &mut [u32; 8
 }
 
 #[no_mangle]
-pub extern "C" fn laptop_exit_timer(state: &mut [u16; 20], handed: &mut [u32; 8]) -> u8
+pub extern "C" fn laptop_exit_timer(state: &mut [u16; 22], handed: &mut [u32; 8]) -> u8
     ensures { λ r. ⌜ LaptopSendsNothing (λ l. decideTimer 5 5 l (l .wait)) r state handed ⌝ }
 {
     let step = port::exit_timer(port_from(state));
@@ -36,7 +36,7 @@ pub extern "C" fn laptop_exit_timer(state: &mut [u16; 20], handed: &mut [u32; 8]
 }
 
 #[no_mangle]
-pub extern "C" fn laptop_protocol_error(state: &mut [u16; 20], handed: &mut [u32; 8]) -> u8
+pub extern "C" fn laptop_protocol_error(state: &mut [u16; 22], handed: &mut [u32; 8]) -> u8
     ensures { λ r. ⌜ LaptopSendsNothing (λ l. decideError l (l .wait)) r state handed ⌝ }
 {
     let step = port::protocol_error(port_from(state));

@@ -1,6 +1,7 @@
-// Numbers, requests and sides.
+// Numbers, requests, sides and editions.
 ghost use mathlib.Core.Path.{_≡_};
-ghost use Rattle.controller.specs.Port.{lowByte, requestFrom, sideFrom, sideNumber};
+ghost use Rattle.controller.specs.Port.{lowByte, requestFrom, sideFrom, sideNumber, editionFrom};
+use messages::Edition;
 use messages::Request;
 use port::Side;
 
@@ -38,4 +39,17 @@ pub(crate) fn side_number(side: Side) -> u8
         Side::Partner => 0,
         Side::Cable => 1,
     }
+}
+
+// 10 is 1.0, 20 is 2.0, any other 2.1.
+pub(crate) fn edition_from(number: u16) -> Edition
+    ensures { λ r. ⌜ r ≡ editionFrom number ⌝ }
+{
+    if number == 10 {
+        return Edition::OneZero;
+    }
+    if number == 20 {
+        return Edition::TwoZero;
+    }
+    Edition::TwoOne
 }

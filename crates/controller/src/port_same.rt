@@ -8,6 +8,7 @@ use crate::numbers::side_number;
 use crate::port_writing::candidate_number;
 use laptop::Held;
 use laptop::Size;
+use messages::edition_number;
 use messages::same_request;
 use port::Own;
 use port::Wait;
@@ -75,5 +76,10 @@ pub(crate) fn same_own(a: Own, b: Own) -> bool
     }
     let held = a.held;
     let other_held = b.held;
-    same_held(held, other_held)
+    if !same_held(held, other_held) {
+        return false;
+    }
+    let edition = a.edition;
+    let other_edition = b.edition;
+    edition_number(edition) == edition_number(other_edition)
 }

@@ -12,6 +12,7 @@ use crate::port_state::own_from;
 use crate::port_state::wait_in;
 use laptop::Candidate;
 use laptop::Held;
+use messages::edition_number;
 use port::Own;
 use port::Port;
 use port::Wait;
@@ -49,7 +50,7 @@ fn held_numbers(held: Held) -> [u16; 3]
     }
 }
 
-fn put_wait(wait: Wait, state: &mut [u16; 20])
+fn put_wait(wait: Wait, state: &mut [u16; 22])
     ensures { λ _. ⌜ left state ≡ sets (lent state) 0 (waitNumbers wait) ⌝ }
 {
     let numbers = wait_numbers(wait);
@@ -59,14 +60,15 @@ fn put_wait(wait: Wait, state: &mut [u16; 20])
     state[3] = numbers[3];
 }
 
-// A side's eight numbers begin at the place.
-fn put_own(own: Own, at: usize, state: &mut [u16; 20])
-    requires { ⌜ at ≤ 12 ⌝ }
+// A side's nine numbers begin at the place.
+fn put_own(own: Own, at: usize, state: &mut [u16; 22])
+    requires { ⌜ at ≤ 13 ⌝ }
     ensures { λ _. ⌜ left state ≡ sets (lent state) at (ownNumbers own) ⌝ }
 {
     let candidate = own.candidate;
     let catalogue = own.held;
     let held = held_numbers(catalogue);
+    let edition = own.edition;
     state[at] = candidate_number(candidate);
     state[at + 1] = own.gathered.extent as u16;
     state[at + 2] = own.gathered.count as u16;
@@ -75,23 +77,24 @@ fn put_own(own: Own, at: usize, state: &mut [u16; 20])
     state[at + 5] = held[0];
     state[at + 6] = held[1];
     state[at + 7] = held[2];
+    state[at + 8] = edition_number(edition) as u16;
 }
 
 // Cleared first: nothing is left of what stood there.
-pub(crate) fn write_port(port: Port, state: &mut [u16; 20])
+pub(crate) fn write_port(port: Port, state: &mut [u16; 22])
     ensures { λ _. ⌜ left state ≡ portNumbers port ⌝ }
 {
-    *state = [0; 20];
+    *state = [0; 22];
     let wait = port.wait;
     put_wait(wait, state);
     let partner = port.partner;
     put_own(partner, 4, state);
     let cable = port.cable;
-    put_own(cable, 12, state);
+    put_own(cable, 13, state);
 }
 
 // Do the numbers stand for the port?
-fn stands_for(state: &[u16; 20], port: Port) -> bool
+fn stands_for(state: &[u16; 22], port: Port) -> bool
     ensures { λ r. ⌜ r ≡ sameList (portNumbers (portFrom (lent state))) (portNumbers port) ⌝ }
 {
     let wait = port.wait;
@@ -103,11 +106,11 @@ fn stands_for(state: &[u16; 20], port: Port) -> bool
         return false;
     }
     let cable = port.cable;
-    same_own(own_from(state, 12), cable)
+    same_own(own_from(state, 13), cable)
 }
 
 // Writes a port's numbers where it is another than the lent ones stand for.
-pub(crate) fn put_port(port: Port, state: &mut [u16; 20])
+pub(crate) fn put_port(port: Port, state: &mut [u16; 22])
     ensures { λ _. ⌜ left state ≡ numbersAfter (lent state) port ⌝ }
 {
     if stands_for(state, port) {

@@ -7,12 +7,14 @@ use lib.ListN.{length, getD}
 use Rattle.laws.specs.Padded.{padded}
 use Rattle.laws.proofs.Padded.{padded-at}
 use Rattle.laws.proofs.Tight.{one-value}
+use Rattle.messages.specs.Editions.{editionNumber}
 use Rattle.messages.specs.Layout.{Message, withReservedClear}
 use Rattle.messages.specs.Reading.{Outcome, accepted, refused, readOutcome, shown, readNumber}
 use Rattle.messages.specs.declared.ReadAs.the-variants.{Refused}
 use Rattle.messages.specs.declared.ReadAs.the-variants.{Message as ReadAs·Message}
 use Rattle.messages.specs.declared.Head.{Head}
 use Rattle.messages.specs.declared.Reading.{Reading}
+use Rattle.messages.specs.declared.edition.Edition.{Edition}
 use Rattle.messages.proofs.Laws.{shown-refused, shown-message}
 use Rattle.messages.proofs.Reserved.{reserved-ignored, read-never-4}
 use Rattle.exports.specs.Numbers.{numberOf, numbersOf}
@@ -24,24 +26,26 @@ numbers-refused o r n k into e a number =
     let is : o ≡ refused n = shown-refused o r n e a in
     (number ∙ ap readNumber a ∙ ap numberOf (sym is), ap (λ (x : Outcome). numbersOf x into) (sym is))
 
-abbrev eleven : Head → ℕ → List ℕ → List ℕ
-eleven h n l =
-    h .svid ∷ h .command ∷ h .kind ∷ h .position ∷ n ∷
+abbrev twelve : ℕ → Head → ℕ → List ℕ → List ℕ
+twelve edition h n l =
+    edition ∷ h .svid ∷ h .command ∷ h .kind ∷ h .position ∷ n ∷
     getD l 0 0 ∷ getD l 1 0 ∷ getD l 2 0 ∷ getD l 3 0 ∷ getD l 4 0 ∷ getD l 5 0 ∷ []
 
-eleven-numbers : (m : Message) (into : List ℕ) → eleven (m .head) (length (m .objects)) (padded (m .objects)) ≡ numbersOf (accepted m) into
+twelve-numbers : (at : Edition) (m : Message) (into : List ℕ) →
+    twelve (editionNumber at) (m .head) (length (m .objects)) (padded (m .objects)) ≡ numbersOf (accepted at m) into
 unfolding numbersOf
-eleven-numbers m into = rw (← padded-at (m .objects))
+twelve-numbers at m into = rw (← padded-at (m .objects))
 
-pub numbers-accepted : (o : Outcome) (r : Reading) (h : Head) (n : ℕ) (into : List ℕ) → r ≡ shown o → r .outcome ≡ ReadAs·Message h n →
-    (0 ≡ numberOf o) × (eleven h n (r .objects) ≡ numbersOf o into)
+pub numbers-accepted : (o : Outcome) (r : Reading) (at : Edition) (h : Head) (n : ℕ) (into : List ℕ) → r ≡ shown o → r .outcome ≡ ReadAs·Message at h n →
+    {edition : ℕ} → edition ≡ editionNumber at → (0 ≡ numberOf o) × (twelve edition h n (r .objects) ≡ numbersOf o into)
 unfolding numberOf
-numbers-accepted o r h n into e a =
-    let (m, is, head, count, objects) = shown-message o r h n e a in
+numbers-accepted o r at h n into e a {edition} spoken =
+    let (m, is, head, count, objects) = shown-message o r at h n e a in
     (sym (ap numberOf is), go m head count (r .objects) objects ∙ ap (λ (x : Outcome). numbersOf x into) (sym is))
   where
-    go : (m : Message) → m .head ≡ h → length (m .objects) ≡ n → (l : List ℕ) → padded (m .objects) ≡ l → eleven h n l ≡ numbersOf (accepted m) into
-    go m head count l objects = rw (← head, ← count, ← objects) (eleven-numbers m into)
+    go : (m : Message) → m .head ≡ h → length (m .objects) ≡ n → (l : List ℕ) → padded (m .objects) ≡ l →
+        twelve edition h n l ≡ numbersOf (accepted at m) into
+    go m head count l objects = rw (spoken, ← head, ← count, ← objects) (twelve-numbers at m into)
 
 -- a result that the promise allows is the only one
 pub read-only : (bytes into : List ℕ) (number other : ℕ) (after after′ : List ℕ) → (number ≡ numberOf (readOutcome bytes)) →
@@ -60,5 +64,5 @@ unfolding numberOf
 never-four bytes = go (readOutcome bytes) (read-never-4 bytes)
   where
     go : (o : Outcome) → (o ≡ refused 4 → ⊥) → numberOf o ≡ 4 → ⊥
-    go (accepted m) none e = omega arith
+    go (accepted at m) none e = omega arith
     go (refused number) none e = none (ap refused e)

@@ -2,6 +2,7 @@
 //! `&mut self`, loops that leave early. The laptop has two sides, and one wait.
 
 use second::catalogue::{MOST_MODES, RUN_WORDS};
+use second::edition::{Edition, OURS};
 use second::laptop::Awaited;
 use second::messages::{
     read, Message, ACK, ATTENTION, BUSY, ENTER, IDENTITY, MODES, MOST_AFTER_HEADER, NAK, REQ, SVIDS,
@@ -44,6 +45,8 @@ pub struct State {
     pub stored: u8,
     pub pages: u8,
     pub held: Option<Size>,
+    /// Of what is sent.
+    pub edition: Edition,
 }
 
 pub struct Catalogue {
@@ -76,6 +79,7 @@ impl State {
         stored: 0,
         pages: 0,
         held: None,
+        edition: OURS,
     };
 }
 
@@ -167,6 +171,7 @@ impl LaptopSide {
             count: 0,
         };
         self.state.stored = 0;
+        self.state.edition = message.edition.lower(OURS);
         self.candidate.svids = [0; MOST_SVIDS];
         self.candidate.identity = *message.objects.words();
         ACCEPTED

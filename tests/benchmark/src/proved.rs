@@ -10,8 +10,8 @@ use second::pages::MOST_SVIDS;
 
 /// What is awaited with its SVID, command and position; then of each side the candidate with its
 /// identity objects, SVIDs and SVIDs with modes, the pages, what is held with its identity objects
-/// and SVIDs.
-pub type State = [u16; 20];
+/// and SVIDs, the edition.
+pub type State = [u16; 22];
 pub type Handed = [u32; 8];
 
 /// The side whose messages are measured.
@@ -97,7 +97,7 @@ macro_rules! library {
 
         #[inline(never)]
         fn read(bytes: &[u8], into: &mut Answer) -> u8 {
-            // SAFETY: it reads `length` bytes and writes eleven words or none.
+            // SAFETY: it reads `length` bytes and writes twelve words or none.
             unsafe { exports_read(bytes.as_ptr(), bytes.len(), into.as_mut_ptr()) }
         }
 

@@ -2,6 +2,7 @@
 
 use crate::proved::{ALL_VERSIONS, LIBRARIES};
 use crate::rounds;
+use second::edition::Edition;
 use second::messages::{
     flip_reserved, has_reserved, read, write, ACK, ATTENTION, BUSY, ENTER, EXIT, IDENTITY,
     LAST_MODE_POSITION, MODES, NAK, OBJECT_BYTES, PD_SID, REQ, SVIDS,
@@ -22,12 +23,12 @@ const RESERVED_ONE_IN: usize = 50;
 /// The refusals of a damaged message.
 const FAULTS: [u8; 4] = [NOT_WHOLE_OBJECTS, NOT_STRUCTURED, UNREAD_MAJOR, WRONG_SHAPE];
 
-/// SVID, command, type, position, number of objects after the header, then their six words.
-pub type Answer = [u32; 11];
+/// Edition, SVID, command, type, position, number of objects after the header, then their six words.
+pub type Answer = [u32; 12];
 /// Leaves the answer alone on a refusal.
 pub type Reader = fn(&[u8], &mut Answer) -> u8;
 /// What an answer holds before the call.
-const UNTOUCHED: Answer = [0xA5A5_A5A5; 11];
+const UNTOUCHED: Answer = [0xA5A5_A5A5; 12];
 
 /// Bits of the header's second byte.
 const STRUCTURED: u8 = 0x80;
@@ -61,12 +62,13 @@ fn rust_read(bytes: &[u8], into: &mut Answer) -> u8 {
         Ok(message) => message,
         Err(refusal) => return refusal,
     };
-    into[0] = message.svid.into();
-    into[1] = message.command.into();
-    into[2] = message.kind.into();
-    into[3] = message.position.into();
-    into[4] = message.objects.as_slice().len() as u32;
-    into[5..].copy_from_slice(message.objects.words());
+    into[0] = message.edition.number().into();
+    into[1] = message.svid.into();
+    into[2] = message.command.into();
+    into[3] = message.kind.into();
+    into[4] = message.position.into();
+    into[5] = message.objects.as_slice().len() as u32;
+    into[6..].copy_from_slice(message.objects.words());
     ACCEPTED
 }
 
@@ -114,8 +116,17 @@ fn drawn_message(random: &mut Random) -> Vec<u8> {
     };
     let count = least + random.below(most - least + 1);
     let objects: Vec<u32> = (0..count).map(|_| random.word()).collect();
+    let edition = random.one_of(&Edition::ALL).number();
     let mut message = vec![0; (1 + count) * OBJECT_BYTES];
-    let answer = write(svid, command, kind, position, &objects, &mut message);
+    let answer = write(
+        svid,
+        command,
+        kind,
+        position,
+        edition,
+        &objects,
+        &mut message,
+    );
     assert_eq!(answer, ACCEPTED);
     message
 }

@@ -4,6 +4,7 @@
 use crate::plain;
 use crate::proved::{self, Library, ALL_VERSIONS, LIBRARIES};
 use crate::rounds;
+use second::edition::OURS;
 use second::laptop::Awaited;
 use second::messages::{write, Request, ACK, OBJECT_BYTES, PD_SID, SVIDS};
 use second::pages::{page, MOST_SVIDS, PAGE_SVIDS};
@@ -75,15 +76,17 @@ impl Input {
 
 fn acknowledged(objects: &[u32]) -> Vec<u8> {
     let mut bytes = vec![0; (1 + objects.len()) * OBJECT_BYTES];
-    let answer = write(PD_SID, SVIDS, ACK, 0, objects, &mut bytes);
+    let answer = write(PD_SID, SVIDS, ACK, 0, OURS.number(), objects, &mut bytes);
     assert_eq!(answer, ACCEPTED);
     bytes
 }
 
 fn proved_state(gathered: u8) -> proved::State {
-    let mut state = [0; 20];
+    let mut state = [0; 22];
     state[..4].copy_from_slice(&[1, PD_SID, SVIDS.into(), 0]);
     state[4..7].copy_from_slice(&[1, IDENTITY_OBJECTS.into(), gathered.into()]);
+    state[12] = OURS.number().into();
+    state[21] = OURS.number().into();
     state
 }
 
@@ -108,14 +111,14 @@ fn numbers(laptop: &plain::Laptop) -> proved::State {
         let [command, position] = [request.command, request.position].map(u16::from);
         [side, request.svid, command, position]
     });
-    let mut numbers = [0; 20];
+    let mut numbers = [0; 22];
     numbers[..4].copy_from_slice(&awaited);
-    numbers[4..12].copy_from_slice(&numbers_of_side(&laptop.sides.partner.state));
-    numbers[12..].copy_from_slice(&numbers_of_side(&laptop.sides.cable.state));
+    numbers[4..13].copy_from_slice(&numbers_of_side(&laptop.sides.partner.state));
+    numbers[13..].copy_from_slice(&numbers_of_side(&laptop.sides.cable.state));
     numbers
 }
 
-fn numbers_of_side(state: &plain::State) -> [u16; 8] {
+fn numbers_of_side(state: &plain::State) -> [u16; 9] {
     let held = state
         .held
         .map_or([0; 3], |size| [1, size.objects.into(), size.count.into()]);
@@ -128,6 +131,7 @@ fn numbers_of_side(state: &plain::State) -> [u16; 8] {
         held[0],
         held[1],
         held[2],
+        state.edition.number().into(),
     ]
 }
 

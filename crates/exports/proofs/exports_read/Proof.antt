@@ -21,11 +21,8 @@ returns : tie.Need-returns
 returns c = numbers-refused (readOutcome (c .before .before .before .before .before .args .bytes .now)) (c .before .before .before .read .result) _ _ (c .before .before .before .before .before .args .into .now) (c .before .before .before .read .ensures) (c .before .enum-told .given .1)
     (c .number .ensures)
 
-cast-t8 : tie.Need-cast-t8
-cast-t8 c = search needs
-
-cast-t9 : tie.Need-cast-t9
-cast-t9 c = search needs
+edition-number-requires : tie.Need-edition-number-requires
+edition-number-requires c κs = search needs
 
 cast-t10 : tie.Need-cast-t10
 cast-t10 c = search needs
@@ -36,8 +33,14 @@ cast-t11 c = search needs
 cast-t12 : tie.Need-cast-t12
 cast-t12 c = search needs
 
-array-read-t15 : tie.Need-array-read-t15
-array-read-t15 c = search needs
+cast-t13 : tie.Need-cast-t13
+cast-t13 c = search needs
+
+cast-t14 : tie.Need-cast-t14
+cast-t14 c = search needs
+
+cast-t15 : tie.Need-cast-t15
+cast-t15 c = search needs
 
 array-read-t18 : tie.Need-array-read-t18
 array-read-t18 c = search needs
@@ -54,8 +57,11 @@ array-read-t27 c = search needs
 array-read-t30 : tie.Need-array-read-t30
 array-read-t30 c = search needs
 
+array-read-t33 : tie.Need-array-read-t33
+array-read-t33 c = search needs
+
 returns-2 : tie.Need-returns-2
-returns-2 c = numbers-accepted (readOutcome (c .before .before .before .before .before .before .before .before .before .before .before .args .bytes .now)) (c .before .before .before .before .before .before .before .before .before .read .result) _ _ (c .before .before .before .before .before .before .before .before .before .before .before .args .into .now) (c .before .before .before .before .before .before .before .before .before .read .ensures) (c .before .before .before .before .before .before .before .outcome .given .1)
+returns-2 c = numbers-accepted (readOutcome (c .before .before .before .before .before .before .before .before .before .before .before .before .args .bytes .now)) (c .before .before .before .before .before .before .before .before .before .before .read .result) _ _ _ (c .before .before .before .before .before .before .before .before .before .before .before .before .args .into .now) (c .before .before .before .before .before .before .before .before .before .before .read .ensures) (c .before .before .before .before .before .before .before .before .outcome .given .1) (c .before .before .before .before .before .edition-number .ensures)
 
 pub exports-read-spec : {M : Type 1} → statement M
 exports-read-spec =
@@ -66,15 +72,17 @@ exports-read-spec =
     enum-told
     number-requires
     returns
-    cast-t8
-    cast-t9
+    edition-number-requires
     cast-t10
     cast-t11
     cast-t12
-    array-read-t15
+    cast-t13
+    cast-t14
+    cast-t15
     array-read-t18
     array-read-t21
     array-read-t24
     array-read-t27
     array-read-t30
+    array-read-t33
     returns-2)

@@ -40,8 +40,14 @@ request-from-requires c κs = search needs
 standing-from-requires : tie.Need-standing-from-requires
 standing-from-requires c κs = search needs
 
+array-read-edition-from : tie.Need-array-read-edition-from
+array-read-edition-from c = search needs
+
+edition-from-requires : tie.Need-edition-from-requires
+edition-from-requires c κs = search needs
+
 returns : tie.Need-returns
-returns c = dock-is (c .before .before .before .before .before .before .before .args .t1) _ _ _ _ _ _ _ (c .before .before .before .before .low-byte .ensures) (c .before .before .before .low-byte2 .ensures) (c .before .before .low-byte3 .ensures) (c .standing-from .ensures) (c .before .request-from .ensures)
+returns c = dock-is (c .before .before .before .before .before .before .before .before .args .t1) _ _ _ _ _ _ _ _ (c .before .before .before .before .before .low-byte .ensures) (c .before .before .before .before .low-byte2 .ensures) (c .before .before .before .low-byte3 .ensures) (c .before .standing-from .ensures) (c .before .before .request-from .ensures) (c .edition-from .ensures)
 
 pub dock-from-spec : {M : Type 1} → statement M
 dock-from-spec =
@@ -59,4 +65,6 @@ dock-from-spec =
     array-read-request-from-3
     request-from-requires
     standing-from-requires
+    array-read-edition-from
+    edition-from-requires
     returns)

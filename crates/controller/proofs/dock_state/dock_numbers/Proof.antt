@@ -7,40 +7,48 @@ use Rattle.controller.proofs.dock_state.dock_numbers.Tie as tie
 standing-numbers-requires : tie.Need-standing-numbers-requires
 standing-numbers-requires c κs = search needs
 
-cast-t5 : tie.Need-cast-t5
-cast-t5 c = search needs
-
 cast-t6 : tie.Need-cast-t6
 cast-t6 c = search needs
 
 cast-t7 : tie.Need-cast-t7
 cast-t7 c = search needs
 
-array-read-t10 : tie.Need-array-read-t10
-array-read-t10 c = search needs
+cast-t8 : tie.Need-cast-t8
+cast-t8 c = search needs
 
-array-read-t13 : tie.Need-array-read-t13
-array-read-t13 c = search needs
+array-read-t11 : tie.Need-array-read-t11
+array-read-t11 c = search needs
 
-array-read-t16 : tie.Need-array-read-t16
-array-read-t16 c = search needs
+array-read-t14 : tie.Need-array-read-t14
+array-read-t14 c = search needs
 
-array-read-t19 : tie.Need-array-read-t19
-array-read-t19 c = search needs
+array-read-t17 : tie.Need-array-read-t17
+array-read-t17 c = search needs
+
+array-read-t20 : tie.Need-array-read-t20
+array-read-t20 c = search needs
+
+edition-number-requires : tie.Need-edition-number-requires
+edition-number-requires c κs = search needs
+
+cast-t22 : tie.Need-cast-t22
+cast-t22 c = search needs
 
 returns : tie.Need-returns
-returns c = numbers-are (c .before .before .before .before .args .dock) _ (c .before .before .before .standing-numbers .ensures)
+returns c = numbers-are (c .before .before .before .before .before .args .dock) _ _ (c .before .before .before .before .standing-numbers .ensures) (c .edition-number .ensures)
 
 pub dock-numbers-spec : {M : Type 1} → statement M
 dock-numbers-spec =
     tie.close
     (tie.spec
     standing-numbers-requires
-    cast-t5
     cast-t6
     cast-t7
-    array-read-t10
-    array-read-t13
-    array-read-t16
-    array-read-t19
+    cast-t8
+    array-read-t11
+    array-read-t14
+    array-read-t17
+    array-read-t20
+    edition-number-requires
+    cast-t22
     returns)

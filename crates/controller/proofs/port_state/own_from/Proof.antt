@@ -91,8 +91,20 @@ size-from-requires-2 c κs = search needs
 held-from-requires : tie.Need-held-from-requires
 held-from-requires c κs = search needs
 
+add-edition-from : tie.Need-add-edition-from
+add-edition-from c = search needs
+
+mul-edition-from : tie.Need-mul-edition-from
+mul-edition-from c = search needs
+
+element-copy-out-edition-from : tie.Need-element-copy-out-edition-from
+element-copy-out-edition-from c = search needs
+
+edition-from-requires : tie.Need-edition-from-requires
+edition-from-requires c κs = search needs
+
 returns : tie.Need-returns
-returns c = own-is _ _ (c .before .before .before .before .before .before .before .before .before .before .before .before .candidate-from .ensures) (c .before .before .before .before .before .before .before .before .before .size-from .ensures) (c .before .before .before .before .before .before .before .low-byte .ensures) (c .before .before .before .before .before .low-byte2 .ensures) (c .held-from .ensures) (c .before .size-from2 .ensures)
+returns c = own-is _ _ (c .before .before .before .before .before .before .before .before .before .before .before .before .before .before .candidate-from .ensures) (c .before .before .before .before .before .before .before .before .before .before .before .size-from .ensures) (c .before .before .before .before .before .before .before .before .before .low-byte .ensures) (c .before .before .before .before .before .before .before .low-byte2 .ensures) (c .before .before .held-from .ensures) (c .before .before .before .size-from2 .ensures) (c .edition-from .ensures)
 
 pub own-from-spec : {M : Type 1} → statement M
 own-from-spec =
@@ -127,4 +139,8 @@ own-from-spec =
     element-copy-out-size-from-4
     size-from-requires-2
     held-from-requires
+    add-edition-from
+    mul-edition-from
+    element-copy-out-edition-from
+    edition-from-requires
     returns)

@@ -100,8 +100,23 @@ mul-state-8 c = search needs
 element-write-state-8 : tie.Need-element-write-state-8
 element-write-state-8 c = search needs
 
+edition-number-requires : tie.Need-edition-number-requires
+edition-number-requires c κs = search needs
+
+cast-state-5 : tie.Need-cast-state-5
+cast-state-5 c = search needs
+
+add-state-8 : tie.Need-add-state-8
+add-state-8 c = search needs
+
+mul-state-9 : tie.Need-mul-state-9
+mul-state-9 c = search needs
+
+element-write-state-9 : tie.Need-element-write-state-9
+element-write-state-9 c = search needs
+
 returns : tie.Need-returns
-returns c = own-stored _ _ (c .before .before .before .before .before .before .args .own) (c .before .before .before .before .candidate-number .ensures) (c .before .before .before .before .before .held-numbers .ensures)
+returns c = own-stored _ _ (c .before .before .before .before .before .before .before .args .own) (c .before .before .before .before .before .candidate-number .ensures) (c .before .before .before .before .before .before .held-numbers .ensures) (c .edition-number .ensures)
 
 pub put-own-spec : {M : Type 1} → statement M
 put-own-spec =
@@ -139,4 +154,9 @@ put-own-spec =
     add-state-7
     mul-state-8
     element-write-state-8
+    edition-number-requires
+    cast-state-5
+    add-state-8
+    mul-state-9
+    element-write-state-9
     returns)

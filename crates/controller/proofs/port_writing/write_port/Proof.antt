@@ -16,7 +16,7 @@ put-own-requires-2 : tie.Need-put-own-requires-2
 put-own-requires-2 c κs = search needs
 
 returns : tie.Need-returns
-returns c = port-stored (replicate 20 0) (c .before .before .before .before .before .before .before .before .before .args .port) refl (c .before .before .before .before .before .before .put-wait .ensures) (c .before .before .before .put-own .ensures) (c .put-own2 .ensures)
+returns c = port-stored (replicate 22 0) (c .before .before .before .before .before .before .before .before .before .args .port) refl (c .before .before .before .before .before .before .put-wait .ensures) (c .before .before .before .put-own .ensures) (c .put-own2 .ensures)
 
 pub write-port-spec : {M : Type 1} → statement M
 write-port-spec =

@@ -1,5 +1,6 @@
-//! The dock end (01, "The dock end"): it asks policy about each request, then sends the answer.
+//! The dock end (01, "The dock end"; 02, R-5): it asks policy about each request, then sends the answer.
 
+use crate::edition::{Edition, OURS};
 use crate::messages::{
     self, ACK, ATTENTION, BUSY, ENTER, EXIT, IDENTITY, MODES, MOST_AFTER_HEADER, NAK, OBJECT_BYTES,
     REQ, SVIDS,
@@ -19,6 +20,10 @@ pub struct Dock {
     identity: Vec<u32>,
     svids: Vec<u16>,
     page: usize,
+    /// The highest edition that this dock speaks.
+    highest: Edition,
+    /// The edition at which it answers.
+    edition: Edition,
     standing: Standing,
 }
 
@@ -59,12 +64,19 @@ impl Reply {
 }
 
 impl Dock {
-    /// A dock that is ready and has nothing loaded.
+    /// Our dock, ready and with nothing loaded.
     pub fn fresh() -> Self {
+        Dock::of_highest(OURS)
+    }
+
+    /// Such a dock, but for the highest edition that it speaks.
+    pub fn of_highest(highest: Edition) -> Self {
         Dock {
             identity: Vec::new(),
             svids: Vec::new(),
             page: 0,
+            highest,
+            edition: highest,
             standing: Standing::Ready,
         }
     }
@@ -75,6 +87,11 @@ impl Dock {
 
     pub fn page(&self) -> usize {
         self.page
+    }
+
+    /// The edition at which the dock answers.
+    pub fn edition(&self) -> Edition {
+        self.edition
     }
 
     pub fn identity_count(&self) -> usize {
@@ -107,12 +124,14 @@ impl Dock {
             return Err(NOT_AWAITED);
         }
         let request = message.request();
+        let edition = message.edition.lower(self.highest);
         if !(IDENTITY..=EXIT).contains(&request.command) {
-            return self.send(request, &Reply::new(NAK, &[]), out);
+            return self.send(request, edition, &Reply::new(NAK, &[]), out);
         }
         if request.command == IDENTITY {
             self.page = 0;
         }
+        self.edition = edition;
         self.standing = Standing::Asking(request);
         Ok(0)
     }
@@ -135,7 +154,7 @@ impl Dock {
             PolicyAnswer::Nak => Reply::new(NAK, &[]),
             PolicyAnswer::Busy => Reply::new(BUSY, &[]),
         };
-        self.send(request, &reply, out)
+        self.send(request, self.edition, &reply, out)
     }
 
     /// The answer being sent has been confirmed; 9 if there is none.
@@ -180,19 +199,28 @@ impl Dock {
         }
     }
 
-    /// Writes the answer and waits for its end, or refuses with 11 and stays as it was.
-    fn send(&mut self, request: Request, reply: &Reply, out: &mut [u8]) -> Result<usize, u8> {
+    /// Writes the answer at the edition and waits for its end, or refuses with 11 and stays as it
+    /// was.
+    fn send(
+        &mut self,
+        request: Request,
+        edition: Edition,
+        reply: &Reply,
+        out: &mut [u8],
+    ) -> Result<usize, u8> {
         let refusal = messages::write(
             request.svid,
             request.command,
             reply.kind,
             request.position,
+            edition.number(),
             &reply.objects,
             out,
         );
         if refusal != ACCEPTED {
             return Err(refusal);
         }
+        self.edition = edition;
         self.standing = Standing::Sending {
             moves_page: reply.moves_page,
         };

@@ -1,13 +1,13 @@
 //! A header for the generators, with all its fields, so that each of them can be wrong.
 
+use crate::edition::{Edition, OURS};
 use crate::messages::{
-    ACK, ATTENTION, BUSY, ENTER, EXIT, IDENTITY, LAST_COMMAND, MODES, NAK, PD_SID, REQ, SVIDS,
+    ACK, ATTENTION, BUSY, ENTER, EXIT, IDENTITY, LAST_COMMAND, LAST_MAJOR, LAST_MINOR, MODES, NAK,
+    PD_SID, REQ, SVIDS,
 };
 use crate::random::Random;
 
-const LAST_MAJOR: u8 = 3;
 const LAST_READ_MAJOR: u8 = 1;
-pub const LAST_MINOR: u8 = 3;
 
 #[derive(Clone, Copy)]
 pub struct Header {
@@ -22,13 +22,14 @@ pub struct Header {
 }
 
 impl Header {
-    /// A header as we send it.
+    /// A header as we send it at our edition.
     pub fn ours(svid: u16, command: u8, kind: u8, position: u8) -> Self {
+        let (major, minor) = OURS.version();
         Header {
             svid,
             structured: true,
-            major: 1,
-            minor: 0,
+            major,
+            minor,
             position,
             kind,
             reserved: false,
@@ -56,6 +57,28 @@ impl Header {
             major: random.byte() & LAST_READ_MAJOR,
             minor: random.byte() & LAST_MINOR,
             reserved: random.below(2) == 1,
+            ..self
+        }
+    }
+
+    /// The same, but of all versions.
+    pub fn of_any_version(self, random: &mut Random) -> Self {
+        Header {
+            major: random.byte() & LAST_MAJOR,
+            ..self.of_another_maker(random)
+        }
+    }
+
+    /// The header in one of the versions that are read as the edition.
+    pub fn read_as(self, edition: Edition, random: &mut Random) -> Self {
+        let (major, minor) = match edition {
+            Edition::OneZero => (0, random.byte() & LAST_MINOR),
+            Edition::TwoZero => (1, 0),
+            Edition::TwoOne => (1, 1 + random.byte() % LAST_MINOR),
+        };
+        Header {
+            major,
+            minor,
             ..self
         }
     }

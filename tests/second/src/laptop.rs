@@ -1,4 +1,4 @@
-//! The laptop end (01, "The laptop end", and 02, R-4): of each side it asks, gathers a candidate and
+//! The laptop end (01, "The laptop end", and 02, R-4 and R-5): of each side it asks, gathers a candidate and
 //! holds a catalogue. One wait is shared by the two.
 
 mod answers;
@@ -7,6 +7,7 @@ mod side_state;
 mod timers;
 
 use crate::catalogue::{Catalogue, RUN_WORDS};
+use crate::edition::Edition;
 use crate::messages::{Message, Request};
 use crate::refusals::{NOT_HELD, SHORT_RUN};
 use crate::side::{Side, Sides};
@@ -121,6 +122,11 @@ impl Laptop {
 
     pub fn page_count(&self, side: Side) -> usize {
         self.states[side].page_count
+    }
+
+    /// The edition at which the side's requests are sent; Identity is sent at ours.
+    pub fn edition(&self, side: Side) -> Edition {
+        self.states[side].edition
     }
 
     /// The set of entered positions of each SVID that has had one.

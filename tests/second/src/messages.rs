@@ -1,5 +1,6 @@
-//! Messages (01, "Message layout"; 02, R-2): reading them from bytes and writing them to bytes.
+//! Messages (01, "Message layout"; 02, R-2 and R-5): reading them from bytes and writing them to bytes.
 
+use crate::edition::Edition;
 use crate::refusals::{
     ACCEPTED, NOT_STRUCTURED, NOT_WHOLE_OBJECTS, SHORT_BUFFER, UNREAD_MAJOR, WRONG_SHAPE,
 };
@@ -29,16 +30,15 @@ pub const MOST_AFTER_HEADER: usize = MOST_OBJECTS - 1;
 /// Where the fields of the header begin.
 const SVID_BIT: u32 = 16;
 const MAJOR_BIT: u32 = 13;
+const MINOR_BIT: u32 = 11;
 const POSITION_BIT: u32 = 8;
 pub const KIND_BIT: u32 = 6;
 /// Bit 5 of the header, and so of its first byte: we send it as 0, and do not look at it.
 pub const RESERVED: u8 = 1 << 5;
 
 const STRUCTURED: u32 = 1 << 15;
-const MAJOR: u32 = 3 << MAJOR_BIT;
-const LAST_READ_MAJOR: u32 = 1 << MAJOR_BIT;
-/// Major 1, minor 0.
-const OUR_VERSION: u32 = 1 << MAJOR_BIT;
+pub const LAST_MAJOR: u8 = 3;
+pub const LAST_MINOR: u8 = 3;
 
 /// A well-shaped message; `kind` is the type of document 01, which is a word of Rust's own.
 #[derive(Clone, Copy, Debug, PartialEq, Eq)]
@@ -47,10 +47,11 @@ pub struct Message {
     pub command: u8,
     pub kind: u8,
     pub position: u8,
+    pub edition: Edition,
     pub objects: Objects,
 }
 
-/// What a request has in common with each answer to it.
+/// What a request has in common with each answer to it; the edition is no part of it.
 #[derive(Clone, Copy, Debug, PartialEq, Eq)]
 pub struct Request {
     pub svid: u16,
@@ -108,9 +109,8 @@ pub fn read(bytes: &[u8]) -> Result<Message, u8> {
     if header & STRUCTURED == 0 {
         return Err(NOT_STRUCTURED);
     }
-    if header & MAJOR > LAST_READ_MAJOR {
-        return Err(UNREAD_MAJOR);
-    }
+    let (major, minor) = version(header);
+    let edition = Edition::of_version(major, minor).ok_or(UNREAD_MAJOR)?;
     let svid = (header >> SVID_BIT) as u16;
     let command = header as u8 & LAST_COMMAND;
     let kind = (header >> KIND_BIT) as u8 & LAST_KIND;
@@ -123,8 +123,22 @@ pub fn read(bytes: &[u8]) -> Result<Message, u8> {
         command,
         kind,
         position,
+        edition,
         objects: Objects::from_bytes(after),
     })
+}
+
+/// The major and the minor of the header with which the bytes begin.
+pub fn version_of(bytes: &[u8]) -> Option<(u8, u8)> {
+    let header = bytes.first_chunk()?;
+    Some(version(u32::from_le_bytes(*header)))
+}
+
+/// The major and the minor of a header.
+fn version(header: u32) -> (u8, u8) {
+    let major = (header >> MAJOR_BIT) as u8 & LAST_MAJOR;
+    let minor = (header >> MINOR_BIT) as u8 & LAST_MINOR;
+    (major, minor)
 }
 
 /// The objects one after another, least significant byte first.
@@ -151,16 +165,20 @@ pub fn flip_reserved_of(objects: &mut [u32]) {
     }
 }
 
-/// Writes the message at the start of `out` and gives 0. It gives 5 for a wrong shape, else 11 for
-/// a short buffer, and then writes nothing.
+/// Writes the message at the start of `out` and gives 0. It gives 5 for a wrong shape or a number
+/// that is no edition, else 11 for a short buffer, and then writes nothing.
 pub fn write(
     svid: u16,
     command: u8,
     kind: u8,
     position: u8,
+    edition: u8,
     objects: &[u32],
     out: &mut [u8],
 ) -> u8 {
+    let Some(edition) = Edition::of_number(edition) else {
+        return WRONG_SHAPE;
+    };
     if !is_well_shaped(svid, command, kind, position, 1 + objects.len()) {
         return WRONG_SHAPE;
     }
@@ -170,9 +188,11 @@ pub fn write(
     if after.len() < objects.len() {
         return SHORT_BUFFER;
     }
+    let (major, minor) = edition.version();
     let header = u32::from(svid) << SVID_BIT
         | STRUCTURED
-        | OUR_VERSION
+        | u32::from(major) << MAJOR_BIT
+        | u32::from(minor) << MINOR_BIT
         | u32::from(position) << POSITION_BIT
         | u32::from(kind) << KIND_BIT
         | u32::from(command);

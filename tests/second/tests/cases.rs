@@ -70,16 +70,18 @@ fn case_11_receives_three_pages() {
     assert_eq!(case("11"), [line]);
 }
 
+/// Between our two ends all is at 2.1.
 #[test]
 fn case_12_is_refused_8_and_leaves_the_old_catalogue() {
-    let refused = format!("{FULL_PAGE}, then FF00A082: refused 8");
+    let page = FULL_PAGE.replace("FF00A042", "FF00A842");
+    let refused = format!("{page}, then FF00A882: refused 8");
     assert_eq!(case("12"), [OLD, &refused, OLD]);
 }
 
 #[test]
 fn case_l_is_the_watchers_lines_and_22_bytes() {
     let lines = [
-        "1 0 FF00A001 0 -",
+        "1 0 FF00A801 0 -",
         "2 0 - 0 -",
         "3 0 FF00A002 0 -",
         "4 0 - 1 -",

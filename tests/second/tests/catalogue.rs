@@ -63,7 +63,7 @@ fn a_short_run_is_refused_11_and_a_longer_run_is_not() {
 fn an_empty_catalogue_is_identity_and_end() {
     let mut bench = Bench::fresh();
     let identity = [0xFF00_A041, 1, 2, 3, 4, 5, 6];
-    bench.exchange(0xFF00_A001, &identity).unwrap();
+    bench.exchange(0xFF00_A801, &identity).unwrap();
     bench.exchange(0xFF00_A002, &[0xFF00_A082]).unwrap();
     let mut bytes = vec![0x06];
     bytes.extend((1..=6).flat_map(|object: u32| object.to_le_bytes()));
@@ -111,7 +111,7 @@ fn the_longest_catalogue_has_2402_bytes() {
     let mut bench = Bench::holding(72, &[1, 2, 3, 4, 5, 6]);
     assert_eq!(written(&bench, 2402).unwrap().len(), 2402 - 3 * 4);
     let identity = [0xFF00_A041, 1, 2, 3, 4, 5, 6];
-    bench.exchange(0xFF00_A001, &identity).unwrap();
+    bench.exchange(0xFF00_A801, &identity).unwrap();
     for first in (1..72).step_by(12) {
         let page: Vec<u16> = (first..first + 12).collect();
         bench.page(&page).unwrap();

@@ -1,6 +1,7 @@
 //! Demand 3: it holds on generated streams of every length, and each way to break it is noticed.
 
 use crate::partner::*;
+use second::edition::Edition;
 use second::laptop::Candidate;
 use second::link_events::checks::{
     Demand, Observed, CHANGED_BY_REFUSED, CHANGED_EARLY, ENDED_UNFINISHED, NEITHER_OLD_NOR_WHOLE,
@@ -340,11 +341,13 @@ fn a_late_page_ends_a_gathering_though_the_other_side_waits() {
 
 #[test]
 fn no_event_changes_anything_of_the_other_side() {
-    let changes: [fn(&mut Observed); 9] = [
+    let changes: [fn(&mut Observed); 11] = [
         |other| other.held = Some(Vec::new()),
         |other| other.candidate = Candidate::None,
         |other| other.awaited = None,
+        |other| other.request = None,
         |other| other.answer = None,
+        |other| other.edition = Edition::OneZero,
         |other| other.page_count += 1,
         |other| other.confirmations_lost += 1,
         |other| *other.entered.entry(1).or_default() |= 1,

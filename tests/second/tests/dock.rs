@@ -268,10 +268,15 @@ fn nak_and_busy_repeat_the_svid_command_and_position() {
 }
 
 #[test]
-fn any_version_that_is_read_is_answered_in_ours() {
-    for header in [0xFF00_8002, 0xFF00_9802, 0xFF00_B802] {
+fn an_answer_is_at_the_edition_of_the_request() {
+    for (header, ack) in [
+        (0xFF00_8002, 0xFF00_8042),
+        (0xFF00_9802, 0xFF00_8042),
+        (0xFF00_A002, 0xFF00_A042),
+        (0xFF00_B802, 0xFF00_A842),
+    ] {
         let mut dock = loaded(1);
-        let list = list_ack(&[0x0001_0000]);
+        let list = bytes(&[ack, 0x0001_0000]);
         assert_eq!(answered(&mut dock, header, Give, &[]), Ok(list));
     }
 }
@@ -461,9 +466,9 @@ fn other_commands_get_a_nak_at_once_in_every_standing() {
 #[test]
 fn such_a_nak_repeats_any_svid_and_position_but_not_the_objects() {
     for (header, nak) in [
-        (0x0000_8000, 0x0000_A080),
+        (0x0000_8000, 0x0000_8080),
         (0xFF00_A707, 0xFF00_A787),
-        (0xFFFF_B81F, 0xFFFF_A09F),
+        (0xFFFF_B81F, 0xFFFF_A89F),
     ] {
         for count in 0..=6 {
             let request = [&[header], &[7; 6][..count]].concat();

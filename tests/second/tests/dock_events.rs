@@ -8,7 +8,7 @@ use second::dock_events::{Event, Run};
 use std::collections::BTreeSet;
 
 const SEEDS: [u64; 4] = [0, 1, 2, u64::MAX];
-const HEADING: &str = "event refusal length buffer standing page count\n";
+const HEADING: &str = "event refusal length buffer standing page count edition\n";
 
 fn answers(mut stream: &[u8]) -> String {
     let mut output = Vec::new();
@@ -63,29 +63,29 @@ fn every_form_of_line_is_as_agreed() {
         &ASK_VENDOR,
     ]
     .concat();
-    let lines = "1 0 0 5A5A5A5A5A5A5A5A5A5A5A5A ready 0 0\n\
-        2 0 0 5A5A5A5A5A5A5A5A5A5A5A5A ready 0 2\n\
-        3 0 0 5A5A5A5A5A5A5A5A5A5A5A5A asking 0 2\n\
-        4 0 12 42A000FF878001FF00000000 sending 0 2\n\
-        5 0 0 5A5A5A5A5A5A5A5A5A5A5A5A ready 0 2\n\
-        6 9 0 5A5A5A5A5A5A5A5A5A5A5A5A ready 0 2\n\
-        7 0 0 5A5A5A5A5A5A5A5A5A ready 0 2\n\
-        8 0 0 5A5A5A5A5A5A5A5A5A asking 0 2\n\
-        9 0 8 43A001FF050400005A sending 0 2\n\
-        10 9 0 5A5A5A5A5A5A5A5A5A sending 0 2\n\
-        11 0 0 5A5A5A5A5A5A5A5A5A ready 0 2\n\
-        12 0 0 5A5A5A5A5A5A5A5A5A asking 0 2\n\
-        13 0 4 C3A001FF5A5A5A5A5A sending 0 2\n\
-        14 0 4 9FA334125A5A5A5A5A sending 0 2\n\
-        15 0 0 - sending 0 2\n\
-        16 11 0 - sending 0 2\n\
+    let lines = "1 0 0 5A5A5A5A5A5A5A5A5A5A5A5A ready 0 0 2.1\n\
+        2 0 0 5A5A5A5A5A5A5A5A5A5A5A5A ready 0 2 2.1\n\
+        3 0 0 5A5A5A5A5A5A5A5A5A5A5A5A asking 0 2 2.0\n\
+        4 0 12 42A000FF878001FF00000000 sending 0 2 2.0\n\
+        5 0 0 5A5A5A5A5A5A5A5A5A5A5A5A ready 0 2 2.0\n\
+        6 9 0 5A5A5A5A5A5A5A5A5A5A5A5A ready 0 2 2.0\n\
+        7 0 0 5A5A5A5A5A5A5A5A5A ready 0 2 2.0\n\
+        8 0 0 5A5A5A5A5A5A5A5A5A asking 0 2 2.0\n\
+        9 0 8 43A001FF050400005A sending 0 2 2.0\n\
+        10 9 0 5A5A5A5A5A5A5A5A5A sending 0 2 2.0\n\
+        11 0 0 5A5A5A5A5A5A5A5A5A ready 0 2 2.0\n\
+        12 0 0 5A5A5A5A5A5A5A5A5A asking 0 2 2.0\n\
+        13 0 4 C3A001FF5A5A5A5A5A sending 0 2 2.0\n\
+        14 0 4 9FA334125A5A5A5A5A sending 0 2 2.0\n\
+        15 0 0 - sending 0 2 2.0\n\
+        16 11 0 - sending 0 2 2.0\n\
         end 16 events\n";
     assert_eq!(answers(&stream), [HEADING, lines].concat());
 }
 
 #[test]
 fn the_buffer_has_28_bytes_at_the_start() {
-    let line = format!("1 9 0 {} ready 0 0\nend 1 events\n", "5A".repeat(28));
+    let line = format!("1 9 0 {} ready 0 0 2.1\nend 1 events\n", "5A".repeat(28));
     assert_eq!(answers(&FAILED), [HEADING, &line].concat());
 }
 
@@ -98,11 +98,11 @@ fn a_confirmed_page_moves_the_page_of_the_line() {
     let page = "42A000FF020001000400030006000500080007000A0009000C000B00";
     let unwritten = "5A".repeat(28);
     let lines = [
-        format!("1 0 0 {unwritten} ready 0 12\n"),
-        format!("2 0 0 {unwritten} asking 0 12\n"),
-        format!("3 0 28 {page} sending 0 12\n"),
-        format!("4 0 0 {unwritten} ready 1 12\n"),
-        format!("5 0 0 {unwritten} asking 1 12\n"),
+        format!("1 0 0 {unwritten} ready 0 12 2.1\n"),
+        format!("2 0 0 {unwritten} asking 0 12 2.0\n"),
+        format!("3 0 28 {page} sending 0 12 2.0\n"),
+        format!("4 0 0 {unwritten} ready 1 12 2.0\n"),
+        format!("5 0 0 {unwritten} asking 1 12 2.0\n"),
         "end 5 events\n".to_string(),
     ];
     assert_eq!(answers(&stream), [HEADING, &lines.concat()].concat());
@@ -120,7 +120,7 @@ fn any_other_kind_is_unknown_and_stops_the_answers() {
     ];
     for kind in (0..=u8::MAX).filter(|kind| !known.contains(kind)) {
         let printed = answers(&[&NO_ROOM[..], &[kind], &SENT].concat());
-        let lines = "1 0 0 - ready 0 0\nunknown kind after 1 events\n";
+        let lines = "1 0 0 - ready 0 0 2.1\nunknown kind after 1 events\n";
         assert_eq!(printed, [HEADING, lines].concat());
     }
 }
@@ -138,7 +138,7 @@ fn an_event_cut_anywhere_stops_the_answers() {
     for event in events {
         for length in 1..event.len() {
             let printed = answers(&[&NO_ROOM, &event[..length]].concat());
-            let lines = "1 0 0 - ready 0 0\ncut after 1 events\n";
+            let lines = "1 0 0 - ready 0 0 2.1\ncut after 1 events\n";
             assert_eq!(printed, [HEADING, lines].concat());
         }
     }
@@ -148,7 +148,7 @@ fn an_event_cut_anywhere_stops_the_answers() {
 fn the_input_counts_as_ended_after_a_million() {
     for after in [&SENT[..], &[0xFF], &LOAD[..3]] {
         let printed = answers(&[&NO_ROOM.repeat(1_000_000), after].concat());
-        assert!(printed.ends_with("\n1000000 0 0 - ready 0 0\nend 1000000 events\n"));
+        assert!(printed.ends_with("\n1000000 0 0 - ready 0 0 2.1\nend 1000000 events\n"));
     }
 }
 
@@ -165,7 +165,7 @@ fn generated_events_leave_nothing_out_and_come_back_from_bytes() {
             assert_eq!(Event::take(&mut input).ok().as_ref(), Some(event));
         }
         assert!(input.is_empty());
-        assert!(events.len() <= 15_000 && stream.len() <= 600_000);
+        assert!(events.len() <= 16_000 && stream.len() <= 600_000);
     }
 }
 
@@ -176,10 +176,13 @@ fn the_same_seed_gives_the_same_events_and_another_does_not() {
 }
 
 /// Nine refusals, 15 kinds in three standings, lists of 0 to 72, and with bit 5 every command but
-/// Attention.
+/// Attention. Of each edition four sorts of answer, loading and three standings, and beside each of the
+/// two others two replacements, three standings without room and four refusals; and 16 versions.
 #[test]
 fn nothing_counted_is_everything_missing() {
-    assert_eq!(Tally::default().missing().len(), 9 + 15 * 3 + 73 + 31);
+    let of_editions = 3 * (4 + 1 + 3 + 2 * (2 + 3 + 4)) + 16;
+    let missing = Tally::default().missing().len();
+    assert_eq!(missing, 9 + 15 * 3 + 73 + 31 + of_editions);
 }
 
 /// Every refusal that a sort of event can get in a standing.

@@ -2,6 +2,7 @@
 
 use second::call::Call;
 use second::catalogue::Catalogue;
+use second::edition::Edition;
 use second::laptop::{Candidate, Told};
 use second::laptop_events::generator::{generate, stored_stream};
 use second::laptop_events::{Event, Outcome, Run};
@@ -13,6 +14,10 @@ use second::side::Side;
 
 const SVIDS: [u16; 3] = [1, 2, 0xFF00];
 const HISTORIES: u64 = 3000;
+/// The bits of major and minor in a header's second byte, and those that differ among versions that
+/// are read.
+const VERSION: u8 = 0x78;
+const READ_VERSIONS: u8 = 0x38;
 
 /// All that there is of one side.
 #[derive(Debug, PartialEq)]
@@ -21,6 +26,7 @@ struct OfSide {
     candidate: Candidate,
     held: Option<Catalogue>,
     page_count: usize,
+    edition: Edition,
     entered: Vec<u32>,
     runs: LentRuns,
 }
@@ -36,6 +42,7 @@ impl OfSide {
             candidate: laptop.candidate(side).clone(),
             held: held.cloned(),
             page_count: laptop.page_count(side),
+            edition: laptop.edition(side),
             entered: entered.collect(),
             runs: run.runs(side).clone(),
         }
@@ -132,10 +139,19 @@ fn drawn_history(seed: u64) -> Vec<Event> {
             8 => Event::Call(drawn_mode(&mut random, side)),
             _ => Event::Call(drawn_call(&mut random, side)),
         };
+        let event = in_drawn_version(&mut random, event);
         run.take(&event);
         events.push(event);
     }
     events
+}
+
+/// The event, a message in a version that is read.
+fn in_drawn_version(random: &mut Random, mut event: Event) -> Event {
+    if let Event::Message { bytes, .. } = &mut event {
+        bytes[1] = bytes[1] & !VERSION | random.byte() & READ_VERSIONS;
+    }
+    event
 }
 
 fn of_objects(side: Side, objects: &[u32]) -> Event {

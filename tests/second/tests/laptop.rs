@@ -7,7 +7,7 @@ use second::laptop::{Answer, Candidate, Laptop, Reason, Runs, Told};
 use second::messages::{read, Request};
 use second::side::Side;
 
-const ASK_IDENTITY: u32 = 0xFF00_A001;
+const ASK_IDENTITY: u32 = 0xFF00_A801;
 const ASK_LIST: u32 = 0xFF00_A002;
 const NAK_LIST: u32 = 0xFF00_A082;
 const BUSY_LIST: u32 = 0xFF00_A0C2;
@@ -130,7 +130,7 @@ fn idle() -> [Bench; 5] {
 #[test]
 fn case_l() {
     let mut bench = Bench::fresh();
-    assert_eq!(bench.next(), sent(0xFF00_A001));
+    assert_eq!(bench.next(), sent(0xFF00_A801));
     assert_eq!(bench.message(&IDENTITY_ACK), NOTHING);
     assert_eq!(bench.next(), sent(0xFF00_A002));
     assert_eq!(bench.message(&[0xFF00_A042, 0xFF01_0000]), NOTHING);
@@ -365,8 +365,10 @@ fn an_answer_must_fit_the_awaited_svid_command_and_position() {
 }
 
 #[test]
-fn the_version_of_an_answer_does_not_matter() {
-    for version in [0x0000, 0x0800, 0x1000, 0x1800, 0x2000, 0x3800] {
+fn an_answer_of_any_version_that_is_read_fits() {
+    for version in [
+        0x0000, 0x0800, 0x1000, 0x1800, 0x2000, 0x2800, 0x3000, 0x3800,
+    ] {
         let mut bench = Bench::fresh();
         let header = 0xFF00_8041 | version;
         assert_eq!(bench.exchange(ASK_IDENTITY, &[header, 1, 2, 3]), NOTHING);

@@ -12,24 +12,26 @@ use std::collections::BTreeSet;
 
 const SEEDS: [u64; 4] = [0, 1, 2, u64::MAX];
 const HEADING: &str = "stream event side refusal sent output told awaited candidate pages held \
-    candidate_run held_run catalogue report other_candidate other_pages other_held\n";
+    edition candidate_run held_run catalogue report other_candidate other_pages other_held \
+    other_edition\n";
 const KNOWN: [u8; 23] = [
     0x01, 0x40, 0x41, 0x42, 0x43, 0x44, 0x45, 0x46, 0x47, 0x48, 0x49, 0x4A, 0x4B, 0x4C, 0x81, 0xC0,
     0xC1, 0xC2, 0xC7, 0xC8, 0xC9, 0xCA, 0xCB,
 ];
 /// What the line of any event tells of a side of which nothing has come.
-const OTHER: &str = "none 0 -";
-/// Both runs as they are at the start, and then with case L's mode. Sides stand in no such line.
+const OTHER: &str = "none 0 - 2.1";
+/// Both runs as they are at the start, and then with case L's mode; the Identity ACK is at 2.0. Sides
+/// stand in no such line.
 const CASE_L: &str = "\
-    1 0 01A000FF EE763419 - FF00:1:0 none 0 - 5F29F345 5F29F345 - -\n\
-    2 0 - - - - open:0 0 - 5F29F345 5F29F345 - -\n\
-    3 0 02A000FF A4E8F0BE - FF00:2:0 open:0 0 - 5F29F345 5F29F345 - -\n\
-    4 0 - - - - done:1:0 1 - 5F29F345 5F29F345 - -\n\
-    5 0 03A001FF C1D077C6 - FF01:3:0 done:1:0 1 - 5F29F345 5F29F345 - -\n\
-    6 0 - - - - none 1 1 0FDC1314 0FDC1314 - -\n";
+    1 0 01A800FF E113CD71 - FF00:1:0 none 0 - 2.1 5F29F345 5F29F345 - -\n\
+    2 0 - - - - open:0 0 - 2.0 5F29F345 5F29F345 - -\n\
+    3 0 02A000FF A4E8F0BE - FF00:2:0 open:0 0 - 2.0 5F29F345 5F29F345 - -\n\
+    4 0 - - - - done:1:0 1 - 2.0 5F29F345 5F29F345 - -\n\
+    5 0 03A001FF C1D077C6 - FF01:3:0 done:1:0 1 - 2.0 5F29F345 5F29F345 - -\n\
+    6 0 - - - - none 1 1 2.0 0FDC1314 0FDC1314 - -\n";
 /// What the line of any event tells of the laptop after case L.
-const HELD: &str = "none 1 1 0FDC1314 0FDC1314";
-const FRESH: &str = "none 0 - 5F29F345 5F29F345";
+const HELD: &str = "none 1 1 2.0 0FDC1314 0FDC1314";
+const FRESH: &str = "none 0 - 2.1 5F29F345 5F29F345";
 
 const NEW_STREAM: [u8; 1] = [0x4C];
 const NEXT: [u8; 1] = [0x40];
@@ -199,8 +201,8 @@ fn messages_have_any_length_up_to_40_and_a_greater_length_counts_as_40() {
     let refused: Vec<String> = (1..=8)
         .map(|number| format!("{number} 1 - - - - {FRESH} - -\n"))
         .collect();
-    let next = "9 0 01A000FF EE763419 - FF00:1:0 none 0 - 5F29F345 5F29F345 - -\nend 9 events\n";
-    let lines = [refused.concat(), next.to_string()].concat();
+    let next = format!("9 0 01A800FF E113CD71 - FF00:1:0 {FRESH} - -\nend 9 events\n");
+    let lines = [refused.concat(), next].concat();
     assert_eq!(answers(&stream), printed_lines(Side::Partner, &[&lines]));
 }
 
@@ -254,7 +256,7 @@ fn greater_lengths_count_as_the_greatest() {
         8 0 - DF59CE01 - - {HELD} 22:2ED34F69 -\n\
         9 0 - DF59CE01 - - {HELD} 22:2ED34F69 -\n\
         10 0 - DF59CE01 - - {HELD} 22:2ED34F69 -\n\
-        11 0 01A000FF 458B2B4D - FF00:1:0 none 0 1 0FDC1314 0FDC1314 - -\n\
+        11 0 01A800FF 391F5905 - FF00:1:0 none 0 1 2.1 0FDC1314 0FDC1314 - -\n\
         end 11 events\n"
     );
     assert_after_case_l(events, &lines);
@@ -363,7 +365,7 @@ fn stored_streams_are_many_and_leave_nothing_out() {
     let mut bytes = Vec::new();
     put_streams(&streams, &mut bytes).unwrap();
     let printed = answers(&bytes);
-    assert!(events_of(&streams) < 100_000 && printed.len() <= 8_000_000);
+    assert!(events_of(&streams) < 105_000 && printed.len() <= 9_000_000);
     let mut reached = Reached::default();
     assert_eq!(reached.count_lines(&printed), events_of(&streams));
     let mut tally = Tally::default();
@@ -408,7 +410,7 @@ fn generated_events_leave_nothing_out_and_come_back_from_bytes() {
             assert_eq!(item, Some(Item::Event(event.clone())));
         }
         assert!(input.is_empty());
-        assert!(events.len() <= 40_000 && stream.len() <= 400_000);
+        assert!(events.len() <= 42_000 && stream.len() <= 400_000);
     }
 }
 

@@ -7,7 +7,7 @@ use second::link_events::{put_streams, Data, Event, Item, Start};
 
 const HEADING: &str =
     "stream event side permitted refusal pages candidate held catalogue page lost \
-    other_pages other_candidate other_held\n";
+    edition dock_edition other_pages other_candidate other_held other_edition\n";
 /// The partner's kinds, each of which has a cable twin.
 const TWINNED: [u8; 13] = [
     0x40, 0x41, 0x42, 0x47, 0x48, 0x50, 0x51, 0x52, 0x53, 0x54, 0x55, 0x56, 0x57,
@@ -15,6 +15,10 @@ const TWINNED: [u8; 13] = [
 /// The timer, a protocol error and a new stream.
 const ALONE: [u8; 3] = [0x43, 0x46, 0x58];
 const CABLE: u8 = 0x80;
+/// The laptop's edition and the dock's.
+const OURS: &str = "2.1 2.1";
+/// A cable of which nothing happens.
+const NO_CABLE: &str = "0 none - 2.1";
 const NEW_STREAM: u8 = 0x58;
 const DROP: u8 = 0x42;
 const TIMER: u8 = 0x43;
@@ -31,19 +35,20 @@ fn answers(mut stream: &[u8]) -> String {
     String::from_utf8(output).unwrap()
 }
 
-/// The heading, and these lines: those of an event have the number of their stream, 1, their side
-/// and a cable of which nothing happens filled in.
+/// The heading, and these lines: those of an event have the number of their stream, 1, their side,
+/// our edition, and a cable of which nothing happens filled in.
 fn printed_lines(lines: &str) -> String {
     let lines = lines.lines().map(|line| match line.split_once(' ') {
         Some((event, fields)) if event.parse::<usize>().is_ok() => {
-            format!("1 {event} partner {fields} 0 none -\n")
+            format!("1 {event} partner {fields} {OURS} {NO_CABLE}\n")
         }
         _ => format!("{line}\n"),
     });
     [HEADING.to_string()].into_iter().chain(lines).collect()
 }
 
-/// Identity 7, 8, 9 and these SVIDs with one mode each; the dock on that page, the old or none.
+/// Identity 7, 8, 9 and these SVIDs with one mode each; the dock on that page, the old or none, and
+/// our edition.
 fn side_start(svids: &[u16], mode: u32, page: u8, old: u8) -> Vec<u8> {
     let mut bytes = vec![3, 7, 0, 0, 0, 8, 0, 0, 0, 9, 0, 0, 0, svids.len() as u8];
     bytes.extend(svids.iter().flat_map(|svid| svid.to_le_bytes()));
@@ -51,8 +56,14 @@ fn side_start(svids: &[u16], mode: u32, page: u8, old: u8) -> Vec<u8> {
         bytes.push(1);
         bytes.extend(mode.to_le_bytes());
     }
-    bytes.extend([page, old]);
+    bytes.extend([page, old, 21]);
     bytes
+}
+
+/// The same start with another number for the dock's highest edition.
+fn of_highest(number: u8, mut side_start: Vec<u8>) -> Vec<u8> {
+    *side_start.last_mut().unwrap() = number;
+    side_start
 }
 
 /// This is the partner's; the cable has an empty list, and the laptop nothing of it.
@@ -107,39 +118,40 @@ fn every_form_of_line_is_as_agreed() {
     assert_eq!(answers(&stream), printed_lines(lines));
 }
 
-/// The cable holds the old catalogue; both ask, and a timer or protocol error is of the one that waits.
+/// The cable holds the old catalogue, and the docks speak 1.0 and 2.0; both ask, and a timer or
+/// protocol error is of the one that waits.
 #[test]
 fn lines_of_both_sides_are_as_agreed() {
     let start = [
-        side_start(&[0xFF01], 0x405, 0, 0),
-        side_start(&[1, 2], 0xA, 0, 1),
+        of_highest(10, side_start(&[0xFF01], 0x405, 0, 0)),
+        of_highest(20, side_start(&[1, 2], 0xA, 0, 1)),
     ];
     let asked = [0xC0, 0x40, TIMER, TIMER, PROTOCOL_ERROR];
     let late = [0x40, 0x50, 0x52, PROTOCOL_ERROR, 0xC0, 0x54, 0xC2];
     let opened = [&twins(&EXCHANGE)[..], &EXCHANGE, &late, &[TIMER]].concat();
-    let lines = "1 1 cable permitted 0 0 none 1 E3C0FFF3 0 0 0 none -\n\
-        1 2 partner permitted 7 0 none - - 0 0 0 none 1\n\
-        1 3 cable permitted 0 0 none 1 E3C0FFF3 0 0 0 none -\n\
-        1 4 partner - - 0 none - - 0 0 0 none 1\n\
-        1 5 partner permitted 9 0 none - - 0 0 0 none 1\n\
-        1 6 cable permitted 0 0 none 1 E3C0FFF3 0 0 0 none -\n\
-        1 7 cable permitted 0 0 none 1 E3C0FFF3 0 0 0 none -\n\
-        1 8 cable permitted 0 0 none 1 E3C0FFF3 0 0 0 none -\n\
-        1 9 cable permitted 0 0 open:0 1 E3C0FFF3 0 0 0 none -\n\
-        1 10 cable permitted 0 0 open:0 1 E3C0FFF3 0 0 0 none -\n\
-        1 11 partner permitted 0 0 none - - 0 0 0 open:0 1\n\
-        1 12 partner permitted 0 0 none - - 0 0 0 open:0 1\n\
-        1 13 partner permitted 0 0 none - - 0 0 0 open:0 1\n\
-        1 14 partner permitted 0 0 open:0 - - 0 0 0 open:0 1\n\
-        1 15 partner permitted 0 0 open:0 - - 0 0 0 open:0 1\n\
-        1 16 partner permitted 0 0 open:0 - - 0 0 0 open:0 1\n\
-        1 17 partner permitted 0 0 open:0 - - 0 0 0 open:0 1\n\
-        1 18 partner permitted 0 0 open:0 - - 0 0 0 open:0 1\n\
-        1 19 partner permitted 0 0 open:0 - - 0 0 0 open:0 1\n\
-        1 20 cable permitted 0 0 open:0 1 E3C0FFF3 0 0 0 open:0 -\n\
-        1 21 partner permitted 6 0 none - - 0 0 0 open:0 1\n\
-        1 22 cable permitted 7 0 open:0 1 E3C0FFF3 0 0 0 none -\n\
-        1 23 cable permitted 0 0 open:0 1 E3C0FFF3 0 0 0 none -\n\
+    let lines = "1 1 cable permitted 0 0 none 1 E3C0FFF3 0 0 2.1 2.0 0 none - 2.1\n\
+        1 2 partner permitted 7 0 none - - 0 0 2.1 1.0 0 none 1 2.1\n\
+        1 3 cable permitted 0 0 none 1 E3C0FFF3 0 0 2.1 2.0 0 none - 2.1\n\
+        1 4 partner - - 0 none - - 0 0 2.1 1.0 0 none 1 2.1\n\
+        1 5 partner permitted 9 0 none - - 0 0 2.1 1.0 0 none 1 2.1\n\
+        1 6 cable permitted 0 0 none 1 E3C0FFF3 0 0 2.1 2.0 0 none - 2.1\n\
+        1 7 cable permitted 0 0 none 1 E3C0FFF3 0 0 2.1 2.0 0 none - 2.1\n\
+        1 8 cable permitted 0 0 none 1 E3C0FFF3 0 0 2.1 2.0 0 none - 2.1\n\
+        1 9 cable permitted 0 0 open:0 1 E3C0FFF3 0 0 2.0 2.0 0 none - 2.1\n\
+        1 10 cable permitted 0 0 open:0 1 E3C0FFF3 0 0 2.0 2.0 0 none - 2.1\n\
+        1 11 partner permitted 0 0 none - - 0 0 2.1 1.0 0 open:0 1 2.0\n\
+        1 12 partner permitted 0 0 none - - 0 0 2.1 1.0 0 open:0 1 2.0\n\
+        1 13 partner permitted 0 0 none - - 0 0 2.1 1.0 0 open:0 1 2.0\n\
+        1 14 partner permitted 0 0 open:0 - - 0 0 1.0 1.0 0 open:0 1 2.0\n\
+        1 15 partner permitted 0 0 open:0 - - 0 0 1.0 1.0 0 open:0 1 2.0\n\
+        1 16 partner permitted 0 0 open:0 - - 0 0 1.0 1.0 0 open:0 1 2.0\n\
+        1 17 partner permitted 0 0 open:0 - - 0 0 1.0 1.0 0 open:0 1 2.0\n\
+        1 18 partner permitted 0 0 open:0 - - 0 0 1.0 1.0 0 open:0 1 2.0\n\
+        1 19 partner permitted 0 0 open:0 - - 0 0 1.0 1.0 0 open:0 1 2.0\n\
+        1 20 cable permitted 0 0 open:0 1 E3C0FFF3 0 0 2.0 2.0 0 open:0 - 1.0\n\
+        1 21 partner permitted 6 0 none - - 0 0 1.0 1.0 0 open:0 1 2.0\n\
+        1 22 cable permitted 7 0 open:0 1 E3C0FFF3 0 0 2.0 2.0 0 none - 1.0\n\
+        1 23 cable permitted 0 0 open:0 1 E3C0FFF3 0 0 2.0 2.0 0 none - 1.0\n\
         end 23 events\n";
     let stream = [start.concat(), asked.to_vec(), opened].concat();
     assert_eq!(answers(&stream), [HEADING, lines].concat());
@@ -168,36 +180,20 @@ fn case_11_has_one_confirmation_lost_and_three_pages() {
     let stream = [start(&svids, 0xA, 5, 0), pages, EXCHANGE.repeat(13)].concat();
     let printed = answers(&stream);
     let lines: Vec<&str> = printed.lines().collect();
-    assert_eq!(lines[1], "1 1 partner permitted 0 0 none - - 1 0 0 none -");
-    assert_eq!(lines[2], "1 2 partner permitted 0 0 none - - 0 0 0 none -");
-    assert_eq!(
-        lines[9],
-        "1 9 partner permitted 0 1 open:12 - - 0 0 0 none -"
-    );
-    assert_eq!(
-        lines[10],
-        "1 10 partner permitted 0 1 open:12 - - 0 1 0 none -"
-    );
-    assert_eq!(
-        lines[14],
-        "1 14 partner permitted 0 2 open:12 - - 0 1 0 none -"
-    );
-    assert_eq!(
-        lines[15],
-        "1 15 partner permitted 0 2 open:12 - - 1 1 0 none -"
-    );
-    assert_eq!(
-        lines[19],
-        "1 19 partner permitted 0 3 done:13:0 - - 1 1 0 none -"
-    );
-    assert_eq!(
-        lines[83],
-        "1 83 partner permitted 0 3 done:13:12 - - 1 1 0 none -"
-    );
-    assert_eq!(
-        lines[84],
-        "1 84 partner permitted 0 3 none 13 C8C7028F 1 1 0 none -"
-    );
+    for (event, fields) in [
+        (1, "0 none - - 1 0"),
+        (2, "0 none - - 0 0"),
+        (9, "1 open:12 - - 0 0"),
+        (10, "1 open:12 - - 0 1"),
+        (14, "2 open:12 - - 0 1"),
+        (15, "2 open:12 - - 1 1"),
+        (19, "3 done:13:0 - - 1 1"),
+        (83, "3 done:13:12 - - 1 1"),
+        (84, "3 none 13 C8C7028F 1 1"),
+    ] {
+        let line = format!("1 {event} partner permitted 0 {fields} {OURS} {NO_CABLE}");
+        assert_eq!(lines[event], line);
+    }
     assert_eq!(lines[86], "end 85 events");
 }
 
@@ -205,7 +201,8 @@ fn case_11_has_one_confirmation_lost_and_three_pages() {
 fn an_empty_list_is_held_after_its_nak() {
     let stream = [start(&[], 0, 0, 0), EXCHANGE.repeat(2)].concat();
     let printed = answers(&stream);
-    let last = "1 10 partner permitted 0 0 none 0 414E757C 0 0 0 none -\nend 10 events\n";
+    let last =
+        "1 10 partner permitted 0 0 none 0 414E757C 0 0 2.1 2.1 0 none - 2.1\nend 10 events\n";
     assert!(printed.ends_with(last));
 }
 
@@ -221,7 +218,7 @@ fn data_of_either_side_that_is_cut_or_breaks_a_limit_is_bad() {
         assert_eq!(answers(&one()[..length]), bad);
     }
     let side = side_start(&[0xFF01], 0x405, 0, 0);
-    let [identity, modes, old] = [0, 16, side.len() - 1];
+    let [identity, modes, old, highest] = [0, 16, side.len() - 2, side.len() - 1];
     assert_eq!(side[modes - 2..=modes], [0x01, 0xFF, 1]);
     let bytes = [
         (identity, 2),
@@ -229,6 +226,10 @@ fn data_of_either_side_that_is_cut_or_breaks_a_limit_is_bad() {
         (modes, 0),
         (modes, 7),
         (old, 2),
+        (highest, 0),
+        (highest, 11),
+        (highest, 22),
+        (highest, 255),
     ];
     let broken = bytes.map(|(place, byte)| {
         let mut side = side.clone();
@@ -272,7 +273,8 @@ fn an_event_cut_anywhere_stops_the_answers() {
 #[test]
 fn the_input_counts_as_ended_after_a_million() {
     let printed = answers(&[one(), vec![DROP; 1_000_001]].concat());
-    let last = "\n1 1000000 partner permitted 0 0 none - - 0 0 0 none -\nend 1000000 events\n";
+    let last =
+        "\n1 1000000 partner permitted 0 0 none - - 0 0 2.1 2.1 0 none - 2.1\nend 1000000 events\n";
     assert!(printed.ends_with(last));
 }
 
@@ -287,8 +289,11 @@ fn a_new_stream_has_its_own_start_and_counts_its_events_anew() {
     ]
     .concat();
     let printed = answers(&streams);
-    assert!(printed.contains(" 0 0 none 0 414E757C 0 0 0 none -\n3 1 partner permitted"));
-    let last = "\n3 1 partner permitted 0 1 none 1 E3C0FFF3 0 0 0 none -\nend 11 events\n";
+    assert!(
+        printed.contains(" 0 0 none 0 414E757C 0 0 2.1 2.1 0 none - 2.1\n3 1 partner permitted")
+    );
+    let last =
+        "\n3 1 partner permitted 0 1 none 1 E3C0FFF3 0 0 2.1 2.1 0 none - 2.1\nend 11 events\n";
     assert!(printed.ends_with(last));
 }
 
@@ -314,7 +319,7 @@ fn stored_streams_are_many_and_leave_nothing_out() {
     put_streams(&streams, &mut bytes).unwrap();
     let events: usize = streams.iter().map(|(_, events)| events.len()).sum();
     let printed = answers(&bytes);
-    assert!(events <= 125_000 && printed.len() <= 7_500_000);
+    assert!(events <= 125_000 && printed.len() <= 8_500_000);
     assert!(printed.ends_with(&format!("\nend {events} events\n")));
 }
 

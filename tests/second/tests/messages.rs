@@ -1,9 +1,13 @@
-//! Reading and writing messages, held against values worked out by hand from document 01.
+//! Reading and writing messages, held against values worked out by hand from documents 01 and 02.
 
+use second::edition::Edition;
 use second::messages::{
     read, write, Message, ACK, ATTENTION, BUSY, ENTER, EXIT, IDENTITY, MODES, NAK, PD_SID, REQ,
     SVIDS,
 };
+
+/// 2.0, at which messages are written where nothing else is said.
+const NUMBER: u8 = 20;
 
 /// SVID, command, type and position.
 type Fields = (u16, u8, u8, u8);
@@ -36,9 +40,14 @@ fn fields(message: &Message) -> Fields {
 
 /// The answer to writing with room for just that many bytes, and the buffer after it.
 fn writing(fields: Fields, objects: &[u32], room: usize) -> (u8, Vec<u8>) {
+    writing_at(NUMBER, fields, objects, room)
+}
+
+/// The same at the edition of that number.
+fn writing_at(number: u8, fields: Fields, objects: &[u32], room: usize) -> (u8, Vec<u8>) {
     let (svid, command, kind, position) = fields;
     let mut out = vec![UNWRITTEN; room];
-    let answer = write(svid, command, kind, position, objects, &mut out);
+    let answer = write(svid, command, kind, position, number, objects, &mut out);
     (answer, out)
 }
 
@@ -119,33 +128,69 @@ fn bit_5_means_nothing_with_any_other_bits() {
     }
 }
 
+/// Every low half of a header that is read: in that of what is written bit 5 is clear, and the version
+/// bits are in the form of the edition.
 #[test]
-fn a_header_that_was_read_is_written_with_our_version_and_bit_5_cleared() {
-    for (read_as, written_as) in [
-        (0xFF00_8062, 0xFF00_A042),
-        (0xFF00_B862, 0xFF00_A042),
-        (0xFF00_A062_u32, 0xFF00_A042_u32),
-    ] {
-        let message = read(&bytes(&[read_as, 0xFF01_0000])).unwrap();
-        let written = writing(fields(&message), message.objects.as_slice(), 8);
-        assert_eq!(written, (0, bytes(&[written_as, 0xFF01_0000])));
+fn a_header_that_was_read_is_written_at_its_own_edition() {
+    for low in 0..=u16::MAX {
+        let header = 0xFF00 << 16 | u32::from(low);
+        for count in [0, 1, 3] {
+            let words = [&[header], &OBJECTS[..count]].concat();
+            let Ok(message) = read(&bytes(&words)) else {
+                continue;
+            };
+            let version = match low >> 11 & 0xF {
+                0..=3 => 0x0000,
+                4 => 0x2000,
+                _ => 0x2800,
+            };
+            let low = u32::from(low) & 0x87DF | version;
+            let expected = [&[0xFF00 << 16 | low], &OBJECTS[..count]].concat();
+            let number = message.edition.number();
+            let written = writing_at(number, fields(&message), &OBJECTS[..count], 4 + 4 * count);
+            assert_eq!(written, (0, bytes(&expected)), "{header:08X}");
+        }
     }
 }
 
 #[test]
-fn majors_0_and_1_are_read_with_any_minor() {
+fn majors_0_and_1_are_read_with_any_minor_as_an_edition() {
     let headers = [
-        0xFF00_8001,
-        0xFF00_8801,
-        0xFF00_9001,
-        0xFF00_9801,
-        0xFF00_A001,
-        0xFF00_A801,
-        0xFF00_B001,
-        0xFF00_B801,
+        (0xFF00_8001, Edition::OneZero),
+        (0xFF00_8801, Edition::OneZero),
+        (0xFF00_9001, Edition::OneZero),
+        (0xFF00_9801, Edition::OneZero),
+        (0xFF00_A001, Edition::TwoZero),
+        (0xFF00_A801, Edition::TwoOne),
+        (0xFF00_B001, Edition::TwoOne),
+        (0xFF00_B801, Edition::TwoOne),
     ];
-    for header in headers {
+    for (header, edition) in headers {
         assert_eq!(reading(&[header]), Ok(((PD_SID, IDENTITY, REQ, 0), vec![])));
+        assert_eq!(read(&bytes(&[header])).unwrap().edition, edition);
+    }
+}
+
+#[test]
+fn each_edition_is_written_in_its_own_form() {
+    let enter = (0xFF01, ENTER, REQ, 1);
+    for (number, header) in [(10, 0xFF01_8104), (20, 0xFF01_A104), (21, 0xFF01_A904)] {
+        assert_eq!(writing_at(number, enter, &[], 4), (0, bytes(&[header])));
+    }
+}
+
+/// Before a short buffer, and with any shape.
+#[test]
+fn a_number_that_is_no_edition_is_refused_5() {
+    for number in (0..=u8::MAX).filter(|number| ![10, 20, 21].contains(number)) {
+        for (fields, room) in [
+            ((PD_SID, IDENTITY, REQ, 0), 4),
+            ((PD_SID, IDENTITY, REQ, 0), 0),
+            ((0, IDENTITY, REQ, 0), 4),
+        ] {
+            let refused = (5, vec![UNWRITTEN; room]);
+            assert_eq!(writing_at(number, fields, &[], room), refused);
+        }
     }
 }
 
@@ -211,23 +256,17 @@ fn the_table_takes_as_many_headers_as_counted_by_hand() {
 
 #[test]
 fn reading_what_was_written_gives_it_again() {
-    for (fields, count) in [0x0000, PD_SID, 0xFFFF].into_iter().flat_map(all_fields) {
-        let objects = &OBJECTS[..count];
-        let (answer, out) = writing(fields, objects, 4 + 4 * count);
-        if answer == 0 {
-            let message = read(&out).unwrap();
-            assert_eq!(message.objects.as_slice(), objects);
-            assert_eq!(self::fields(&message), fields);
+    for edition in Edition::ALL {
+        for (fields, count) in [0x0000, PD_SID, 0xFFFF].into_iter().flat_map(all_fields) {
+            let objects = &OBJECTS[..count];
+            let (answer, out) = writing_at(edition.number(), fields, objects, 4 + 4 * count);
+            if answer == 0 {
+                let message = read(&out).unwrap();
+                assert_eq!(message.objects.as_slice(), objects);
+                assert_eq!(self::fields(&message), fields);
+                assert_eq!(message.edition, edition);
+            }
         }
-    }
-}
-
-#[test]
-fn writing_what_was_read_gives_its_bytes_with_our_version() {
-    for header in [0xFF00_8042, 0xFF00_B842_u32] {
-        let message = read(&bytes(&[header, 0xFF01_0000])).unwrap();
-        let written = writing(fields(&message), message.objects.as_slice(), 8);
-        assert_eq!(written, (0, bytes(&[0xFF00_A042, 0xFF01_0000])));
     }
 }
 

@@ -1,6 +1,7 @@
 //! The partner's link events by name, for the tests of the links, and what is the same of the cable.
 
 use second::call::Call;
+use second::edition::Edition;
 use second::link_events::{Data, Event, LinkEvent, SideStart, Start};
 use second::side::Side;
 
@@ -45,7 +46,7 @@ pub fn twins(events: &[Event]) -> Vec<Event> {
     events.iter().copied().map(twin).collect()
 }
 
-/// SVIDs 1 to `count`, each with its own mode.
+/// SVIDs 1 to `count`, each with its own mode, of a dock of our edition.
 pub fn side_start(count: u16) -> SideStart {
     SideStart {
         data: Data {
@@ -55,6 +56,7 @@ pub fn side_start(count: u16) -> SideStart {
         },
         page: 0,
         holds_old: false,
+        highest: Edition::TwoOne,
     }
 }
 

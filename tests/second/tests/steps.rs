@@ -13,12 +13,32 @@ fn printed(steps: &str) -> Vec<String> {
 fn an_accepted_call_of_the_dock_shows_what_it_sends() {
     let steps = "dock_load 00000001 00000002 00000003 / 0001\ndock_message FF00A002\ndock_policy_answer 0 FF00 2 0\ndock_sent\n";
     let lines = [
-        "dock_load 00000001 00000002 00000003 / 0001: accepted, length 0, sends nothing, state 3 1 0 ready",
-        "dock_message FF00A002: accepted, length 0, sends nothing, state 3 1 0 asking FF00 2 0",
-        "dock_policy_answer 0 FF00 2 0: accepted, length 8, sends FF00A042 00010000, state 3 1 0 sending",
-        "dock_sent: accepted, length 0, sends nothing, state 3 1 0 ready",
+        "dock_load 00000001 00000002 00000003 / 0001: accepted, length 0, sends nothing, state 3 1 0 ready 21",
+        "dock_message FF00A002: accepted, length 0, sends nothing, state 3 1 0 asking FF00 2 0 20",
+        "dock_policy_answer 0 FF00 2 0: accepted, length 8, sends FF00A042 00010000, state 3 1 0 sending 20",
+        "dock_sent: accepted, length 0, sends nothing, state 3 1 0 ready 20",
     ];
     assert_eq!(printed(steps), lines);
+}
+
+#[test]
+fn the_dock_answers_at_the_edition_of_its_newest_good_request() {
+    let answers = [
+        ("dock_message FF008001", "asking FF00 1 0 10"),
+        ("dock_message FF00A801", "asking FF00 1 0 21"),
+        ("dock_message FF00C001", "asking FF00 1 0 21"),
+        ("dock_message FF009802", "asking FF00 2 0 10"),
+        ("dock_message FF00B802", "asking FF00 2 0 21"),
+        ("dock_message FF01A11F", "sending 20"),
+        ("dock_message FF01911F", "sending 10"),
+    ];
+    let steps = answers.map(|(step, _)| format!("{step}\n")).concat();
+    let lines = printed(&steps);
+    for ((_, state), line) in answers.iter().zip(&lines) {
+        assert!(line.ends_with(&format!(", state 0 0 0 {state}")), "{line}");
+    }
+    assert!(lines[2].contains(": refused 3, changed nothing,"));
+    assert!(lines[5].contains(", sends FF01A19F,") && lines[6].contains(", sends FF01819F,"));
 }
 
 #[test]
@@ -26,12 +46,12 @@ fn a_refusal_shows_what_it_changed() {
     let identity = "laptop_message 0 FF00A041 00000001 00000002 00000003";
     let page = "laptop_message 0 FF00A042 00010000";
     let steps = format!("laptop_next 0\nlaptop_drop 0\n{identity}\n{page}\n");
-    let cable = "cable 0 - - - 0 0 - -";
+    let cable = "cable 0 - - - 0 0 - - 21";
     let lines = [
-        format!("laptop_next 0: accepted, handed 4 0 0000 0 0 0 00000000 0, sends FF00A001, awaited 1 FF00 1 0, partner 0 - - - 0 0 - -, {cable}"),
-        format!("laptop_drop 0: refused 7, changed nothing, awaited 1 FF00 1 0, partner 0 - - - 0 0 - -, {cable}"),
-        format!("{identity}: accepted, handed 0 0 0000 0 0 0 00000000 0, sends nothing, awaited 0 - - -, partner 1 3 0 0 0 0 - -, {cable}"),
-        format!("{page}: refused 6, changed state, awaited 0 - - -, partner 0 - - - 0 0 - -, {cable}"),
+        format!("laptop_next 0: accepted, handed 4 0 0000 0 0 0 00000000 0, sends FF00A801, awaited 1 FF00 1 0, partner 0 - - - 0 0 - - 21, {cable}"),
+        format!("laptop_drop 0: refused 7, changed nothing, awaited 1 FF00 1 0, partner 0 - - - 0 0 - - 21, {cable}"),
+        format!("{identity}: accepted, handed 0 0 0000 0 0 0 00000000 0, sends nothing, awaited 0 - - -, partner 1 3 0 0 0 0 - - 20, {cable}"),
+        format!("{page}: refused 6, changed state, awaited 0 - - -, partner 0 - - - 0 0 - - 20, {cable}"),
     ];
     assert_eq!(printed(&steps), lines);
 }
@@ -41,24 +61,24 @@ fn a_call_of_the_cable_shows_both_sides() {
     let identity = "laptop_message 1 FF00A041 00000001 00000002 00000003";
     let page = "laptop_message 1 FF00A042 00010000";
     let steps = format!("laptop_next 1\nlaptop_drop 0\n{identity}\nlaptop_next 0\n{page}\n");
-    let partner = "partner 0 - - - 0 0 - -";
+    let partner = "partner 0 - - - 0 0 - - 21";
     let lines = [
-        format!("laptop_next 1: accepted, handed 4 0 0000 0 0 0 00000000 1, sends FF00A001, awaited 2 FF00 1 0, {partner}, cable 0 - - - 0 0 - -"),
-        format!("laptop_drop 0: refused 7, changed nothing, awaited 2 FF00 1 0, {partner}, cable 0 - - - 0 0 - -"),
-        format!("{identity}: accepted, handed 0 0 0000 0 0 0 00000000 1, sends nothing, awaited 0 - - -, {partner}, cable 1 3 0 0 0 0 - -"),
-        format!("laptop_next 0: accepted, handed 4 0 0000 0 0 0 00000000 0, sends FF00A001, awaited 1 FF00 1 0, {partner}, cable 1 3 0 0 0 0 - -"),
-        format!("{page}: refused 6, changed state, awaited 1 FF00 1 0, {partner}, cable 0 - - - 0 0 - -"),
+        format!("laptop_next 1: accepted, handed 4 0 0000 0 0 0 00000000 1, sends FF00A801, awaited 2 FF00 1 0, {partner}, cable 0 - - - 0 0 - - 21"),
+        format!("laptop_drop 0: refused 7, changed nothing, awaited 2 FF00 1 0, {partner}, cable 0 - - - 0 0 - - 21"),
+        format!("{identity}: accepted, handed 0 0 0000 0 0 0 00000000 1, sends nothing, awaited 0 - - -, {partner}, cable 1 3 0 0 0 0 - - 20"),
+        format!("laptop_next 0: accepted, handed 4 0 0000 0 0 0 00000000 0, sends FF00A801, awaited 1 FF00 1 0, {partner}, cable 1 3 0 0 0 0 - - 20"),
+        format!("{page}: refused 6, changed state, awaited 1 FF00 1 0, {partner}, cable 0 - - - 0 0 - - 20"),
     ];
     assert_eq!(printed(&steps), lines);
 }
 
 #[test]
 fn a_timer_hands_over_the_side_that_waited() {
-    let fresh = "partner 0 - - - 0 0 - -, cable 0 - - - 0 0 - -";
+    let fresh = "partner 0 - - - 0 0 - - 21, cable 0 - - - 0 0 - - 21";
     for side in [0, 1] {
         let steps = format!("laptop_next {side}\nlaptop_response_timer\nlaptop_response_timer\n");
         let lines = [
-            format!("laptop_next {side}: accepted, handed 4 0 0000 0 0 0 00000000 {side}, sends FF00A001, awaited {} FF00 1 0, {fresh}", side + 1),
+            format!("laptop_next {side}: accepted, handed 4 0 0000 0 0 0 00000000 {side}, sends FF00A801, awaited {} FF00 1 0, {fresh}", side + 1),
             format!("laptop_response_timer: accepted, handed 0 0 0000 0 0 0 00000000 {side}, sends nothing, awaited 0 - - -, {fresh}"),
             format!("laptop_response_timer: refused 9, changed nothing, awaited 0 - - -, {fresh}"),
         ];
@@ -81,7 +101,7 @@ fn holding(side: u8) -> String {
 fn a_catalogue_is_published_and_written_of_its_own_side() {
     let steps = holding(1) + "catalogue_write 0 2402\ncatalogue_write 1 2402\n";
     let lines = [
-        "laptop_message 1 FF01A043 00000405: accepted, handed 0 0 0000 0 0 0 00000000 1, sends nothing, cable_run 0 is 00000405, cable_held_run 0 is 00000405, awaited 0 - - -, partner 0 - - - 0 0 - -, cable 0 - - - 1 1 3 1",
+        "laptop_message 1 FF01A043 00000405: accepted, handed 0 0 0000 0 0 0 00000000 1, sends nothing, cable_run 0 is 00000405, cable_held_run 0 is 00000405, awaited 0 - - -, partner 0 - - - 0 0 - - 21, cable 0 - - - 1 1 3 1 20",
         "catalogue_write 0 2402: refused 12, changed nothing",
         "catalogue_write 1 2402: accepted, length 22, bytes 030100000002000000030000001001FF200504000000",
     ];
@@ -90,7 +110,7 @@ fn a_catalogue_is_published_and_written_of_its_own_side() {
 
 #[test]
 fn an_enter_that_comes_to_nothing_is_told_of_its_side() {
-    let state = "awaited 0 - - -, partner 0 - - - 0 0 - -, cable 0 - - - 1 1 3 1";
+    let state = "awaited 0 - - -, partner 0 - - - 0 0 - - 21, cable 0 - - - 1 1 3 1 20";
     for (end, told) in [
         ("laptop_message 1 FF01A184", 2),
         ("laptop_message 1 FF01A1C4", 3),
@@ -110,7 +130,7 @@ fn an_enter_that_comes_to_nothing_is_told_of_its_side() {
 
 #[test]
 fn short_runs_refuse_the_calls_of_their_own_side() {
-    let fresh = "awaited 0 - - -, partner 0 - - - 0 0 - -, cable 0 - - - 0 0 - -";
+    let fresh = "awaited 0 - - -, partner 0 - - - 0 0 - - 21, cable 0 - - - 0 0 - - 21";
     let steps = "runs 1 432 431\nlaptop_fresh\nlaptop_drop 1\nlaptop_drop 0\nruns 1 432 432\nlaptop_drop 1\n";
     let lines = [
         "runs 1 432 431: set".to_string(),
@@ -142,10 +162,10 @@ fn a_side_other_than_the_cable_is_the_partner() {
 
 #[test]
 fn bytes_are_two_digits_each_and_an_attention_is_handed_over_whole() {
-    let fresh = "awaited 0 - - -, partner 0 - - - 0 0 - -, cable 0 - - - 0 0 - -";
+    let fresh = "awaited 0 - - -, partner 0 - - - 0 0 - - 21, cable 0 - - - 0 0 - - 21";
     let attention = "FF01A206 00000007: accepted, handed 0 1 FF01 6 2 1 00000007";
     let lines = [
-        "dock_message 00A001: refused 1, changed nothing, state 0 0 0 ready".to_string(),
+        "dock_message 00A001: refused 1, changed nothing, state 0 0 0 ready 21".to_string(),
         format!("laptop_message 0 {attention} 0, sends nothing, {fresh}"),
         format!("laptop_message 1 {attention} 1, sends nothing, {fresh}"),
     ];

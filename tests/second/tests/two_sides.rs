@@ -20,7 +20,7 @@ const FULL: [u32; 7] = [
 ];
 const LAST: [u32; 2] = [0xFF00_A042, 0x0001_0000];
 const MODES: [u32; 3] = [0x0001_A043, 0x405, 0x406];
-const ASK_IDENTITY: u32 = 0xFF00_A001;
+const ASK_IDENTITY: u32 = 0xFF00_A801;
 const ASK_LIST: u32 = 0xFF00_A002;
 
 fn call(run: &mut Run, call: Call) -> Outcome {

@@ -12,11 +12,18 @@ fn answers(mut stream: &[u8]) -> String {
 }
 
 const READ_ENTER: [u8; 6] = [1, 4, 0x04, 0xA1, 0x01, 0xFF];
-/// An SVIDs ACK with one object and a room of 9 bytes.
-const WRITE_LIST: [u8; 12] = [2, 0x00, 0xFF, 2, 1, 0, 9, 1, 0x00, 0x00, 0x01, 0xFF];
+/// An SVIDs ACK at 2.0 with one object and a room of 9 bytes.
+const WRITE_LIST: [u8; 13] = [2, 0x00, 0xFF, 2, 1, 0, 20, 9, 1, 0x00, 0x00, 0x01, 0xFF];
 /// The same with a room of 3 bytes, and without a room.
-const WRITE_SHORT: [u8; 12] = [2, 0x00, 0xFF, 2, 1, 0, 3, 1, 0x00, 0x00, 0x01, 0xFF];
-const WRITE_NOWHERE: [u8; 12] = [2, 0x00, 0xFF, 2, 1, 0, 0, 1, 0x00, 0x00, 0x01, 0xFF];
+const WRITE_SHORT: [u8; 13] = [2, 0x00, 0xFF, 2, 1, 0, 20, 3, 1, 0x00, 0x00, 0x01, 0xFF];
+const WRITE_NOWHERE: [u8; 13] = [2, 0x00, 0xFF, 2, 1, 0, 20, 0, 1, 0x00, 0x00, 0x01, 0xFF];
+/// An Identity request with room for it, at 1.0, at 2.1, and at a number that is no edition.
+const WRITE_FIRST: [u8; 9] = [2, 0x00, 0xFF, 1, 0, 0, 10, 4, 0];
+const WRITE_OURS: [u8; 9] = [2, 0x00, 0xFF, 1, 0, 0, 21, 4, 0];
+const WRITE_NO_EDITION: [u8; 9] = [2, 0x00, 0xFF, 1, 0, 0, 11, 4, 0];
+/// An Identity request of major 1 and minor 3, and of major 0 and minor 1.
+const READ_OURS: [u8; 6] = [1, 4, 0x01, 0xB8, 0x00, 0xFF];
+const READ_FIRST: [u8; 6] = [1, 4, 0x01, 0x88, 0x00, 0xFF];
 const READ_LIST: [u8; 10] = [1, 8, 0x42, 0xA0, 0x00, 0xFF, 0x00, 0x00, 0x01, 0xFF];
 const READ_NOTHING: [u8; 2] = [1, 0];
 
@@ -29,16 +36,26 @@ fn every_form_of_line_is_as_agreed() {
         &WRITE_LIST,
         &WRITE_SHORT,
         &WRITE_NOWHERE,
+        &WRITE_FIRST,
+        &WRITE_OURS,
+        &WRITE_NO_EDITION,
+        &READ_OURS,
+        &READ_FIRST,
     ]
     .concat();
     let expected = "vector answer\n\
-        1 read 0 FF01 4 0 1\n\
-        2 read 0 FF00 2 1 0 FF010000\n\
+        1 read 0 2.0 FF01 4 0 1\n\
+        2 read 0 2.0 FF00 2 1 0 FF010000\n\
         3 read 1\n\
         4 write 0 42A000FF000001FF5A\n\
         5 write 11 5A5A5A\n\
         6 write 11\n\
-        end 6 vectors\n";
+        7 write 0 018000FF\n\
+        8 write 0 01A800FF\n\
+        9 write 5 5A5A5A5A\n\
+        10 read 0 2.1 FF00 1 0 0\n\
+        11 read 0 1.0 FF00 1 0 0\n\
+        end 11 vectors\n";
     assert_eq!(answers(&stream), expected);
 }
 
@@ -92,8 +109,10 @@ fn generated_vectors_leave_no_answer_out_and_come_back_from_bytes() {
     }
 }
 
-/// Eight answers, 32 times 4 pairs of command and type, and with bit 5 the 73 that the table takes.
+/// Eight answers, 32 times 4 pairs of command and type, and with bit 5 the 73 that the table takes. Of
+/// editions: 16 versions, 3 read and 3 written, 7 numbers that are none, and the 73 at each.
 #[test]
 fn nothing_counted_is_everything_missing() {
-    assert_eq!(Tally::default().missing().len(), 8 + 128 + 73);
+    let of_editions = 16 + 3 + 3 + 7 + 2 * 3 * 73;
+    assert_eq!(Tally::default().missing().len(), 8 + 128 + 73 + of_editions);
 }

@@ -16,7 +16,7 @@ const KNOWN: [u8; 28] = [
     1, 2, 3, 4, 5, 6, 7, 0x40, 0x41, 0x42, 0x43, 0x44, 0x45, 0x46, 0x47, 0x48, 0x81, 0x82, 0x83,
     0x84, 0x85, 0x86, 0x87, 0xC0, 0xC1, 0xC2, 0xC7, 0xC8,
 ];
-const CASE_L: &str = "1 0 FF00A001 0 -\n\
+const CASE_L: &str = "1 0 FF00A801 0 -\n\
     2 0 - 0 -\n\
     3 0 FF00A002 0 -\n\
     4 0 - 1 -\n\
@@ -118,7 +118,7 @@ fn asking_again_after_case_l() {
     ]
     .concat();
     let lines = "7 0 - 1 1\n\
-        8 0 FF00A001 0 1\n\
+        8 0 FF00A801 0 1\n\
         9 0 - 0 1\n\
         10 9 - 0 1\n\
         11 0 - 0 1\n\
@@ -137,7 +137,7 @@ fn an_empty_list_is_held_as_0() {
         message(&[0xFF00_A082]),
     ]
     .concat();
-    let lines = "1 0 FF00A001 0 -\n2 0 - 0 -\n3 0 FF00A002 0 -\n4 0 - 0 0\nend 4 events\n";
+    let lines = "1 0 FF00A801 0 -\n2 0 - 0 -\n3 0 FF00A002 0 -\n4 0 - 0 0\nend 4 events\n";
     assert_eq!(answers(&stream), [HEADING, lines].concat());
 }
 
@@ -162,7 +162,7 @@ fn an_empty_stream_ends_at_once() {
 fn any_other_kind_is_unknown_and_stops_the_answers() {
     for kind in (0..=u8::MAX).filter(|kind| !KNOWN.contains(kind)) {
         let printed = answers(&[0x40, kind, 0x40]);
-        let lines = "1 0 FF00A001 0 -\nunknown kind after 1 events\n";
+        let lines = "1 0 FF00A801 0 -\nunknown kind after 1 events\n";
         assert_eq!(printed, [HEADING, lines].concat());
     }
 }
@@ -174,7 +174,7 @@ fn an_event_cut_anywhere_stops_the_answers() {
     for event in messages.chain(modes) {
         for length in 1..event.len() {
             let printed = answers(&[&[0x40], &event[..length]].concat());
-            let lines = "1 0 FF00A001 0 -\ncut after 1 events\n";
+            let lines = "1 0 FF00A801 0 -\ncut after 1 events\n";
             assert_eq!(printed, [HEADING, lines].concat());
         }
     }
@@ -201,7 +201,7 @@ fn generated_events_leave_nothing_out_and_come_back_from_bytes() {
             assert_eq!(Event::take(&mut input).ok().as_ref(), Some(event));
         }
         assert!(input.is_empty());
-        assert!(events.len() <= 29_000 && stream.len() <= 600_000);
+        assert!(events.len() <= 30_000 && stream.len() <= 600_000);
     }
 }
 
@@ -213,13 +213,19 @@ fn the_same_seed_gives_the_same_events_and_another_does_not() {
 
 /// Eleven refusals; 28 kinds in eleven waits; of each side eight states and three candidates in five
 /// waits of the other, 16 requests, its lists, and with bit 5 Attention and three answers to each of
-/// five commands, but for the NAK to Modes; lists of 0 to 72; bit 5; of each side 14 things that two
-/// sides are needed for, and catalogues of both.
+/// five commands, but for the NAK to Modes, and eight versions that are not read; lists of 0 to 72;
+/// bit 5; of each side 14 things that two sides are needed for, and catalogues of both.
+/// Of the editions of each side: Identity sent; at each four requests, Identity sent after it and two
+/// sorts of Identity ACK, and beside each of the two others nine events; at each of the two below ours
+/// four ends of Identity, three losses and three refusals of calls and of messages; 14; eight versions.
 #[test]
 fn nothing_counted_is_everything_missing() {
     let missing = Tally::default().missing().len();
-    let of_side = 8 + 3 * 5 + 16 + 1 + 15;
-    assert_eq!(missing, 11 + 28 * 11 + 2 * of_side + 73 + 1 + 2 * 14 + 1);
+    let of_side = 8 + 3 * 5 + 16 + 1 + 15 + 8;
+    let of_editions = 1 + 3 * (4 + 1 + 2 + 2 * 9) + 2 * (4 + 3 + 3 + 3) + 1 + 8;
+    let of_two_sides = 2 * 14 + 1;
+    let expected = 11 + 28 * 11 + 2 * of_side + 73 + 1 + of_two_sides + 2 * of_editions;
+    assert_eq!(missing, expected);
 }
 
 /// The side that an event concerns, and whether the other waits. A timer concerns the side that

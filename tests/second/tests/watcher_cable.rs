@@ -4,7 +4,7 @@ use second::watcher::answers::print_answers;
 use second::watcher::edges::edges;
 
 const HEADING: &str = "event refusal sent pages held\n";
-const CASE_L: &str = "1 0 FF00A001 0 -\n\
+const CASE_L: &str = "1 0 FF00A801 0 -\n\
     2 0 - 0 -\n\
     3 0 FF00A002 0 -\n\
     4 0 - 1 -\n\
@@ -70,9 +70,9 @@ fn case_l_of_the_cable_while_the_partners_list_is_open() {
         cable(&[0xFF00_A042, 0x0001_0000]),
         partner(&[0xFF00_A082]),
     ];
-    let lines = "1 0 FF00A001 0 -\n\
+    let lines = "1 0 FF00A801 0 -\n\
         2 0 - 0 -\n\
-        3 0 FF00A001 0 -\n\
+        3 0 FF00A801 0 -\n\
         4 0 - 0 -\n\
         5 0 FF00A002 0 -\n\
         6 7 - 0 -\n\
@@ -118,16 +118,16 @@ fn every_call_of_the_cable_after_case_l() {
         10 0 FF01A104 1 1\n\
         11 0 - 1 1\n\
         12 13 - 1 1\n\
-        13 0 FF00A001 0 -\n\
+        13 0 FF00A801 0 -\n\
         14 0 - 0 -\n\
         15 0 FF01A705 1 1\n\
         16 0 - 0 -\n\
         17 0 FF01A105 1 1\n\
         18 0 - 1 1\n\
-        19 0 FF00A001 0 1\n\
+        19 0 FF00A801 0 1\n\
         20 0 - 0 1\n\
         21 0 - 0 1\n\
-        22 0 FF00A001 0 1\n\
+        22 0 FF00A801 0 1\n\
         end 22 events\n";
     let printed = answers(&[case_l_of_cable(), after].concat());
     assert_eq!(printed, [HEADING, CASE_L, lines].concat());
@@ -138,7 +138,7 @@ fn timers_and_the_protocol_error_have_no_twins() {
     let edges = edges();
     for kind in [0x80, 0x88, 0xBF, 0xC3, 0xC4, 0xC5, 0xC6, 0xC9, 0xFF] {
         let printed = answers(&[0xC0, kind, 0xC0]);
-        let lines = "1 0 FF00A001 0 -\nunknown kind after 1 events\n";
+        let lines = "1 0 FF00A801 0 -\nunknown kind after 1 events\n";
         assert_eq!(printed, [HEADING, lines].concat());
         let name = format!("kind_{kind:02X}_unknown");
         assert!(edges.iter().any(|(edge, _)| *edge == name));
@@ -153,7 +153,7 @@ fn an_event_of_the_cable_cut_anywhere_stops_the_answers() {
     for event in messages.chain(modes) {
         for length in 1..event.len() {
             let printed = answers(&[&[0xC0][..], &event[..length]].concat());
-            let lines = "1 0 FF00A001 0 -\ncut after 1 events\n";
+            let lines = "1 0 FF00A801 0 -\ncut after 1 events\n";
             assert_eq!(printed, [HEADING, lines].concat());
             let name = format!("kind_{:02X}_cut_after_{}", event[0], length - 1);
             assert!(edges.iter().any(|(edge, _)| *edge == name));

@@ -1,5 +1,6 @@
 //! The cases of 01 ("Cases on each side"), each shown in a line or more. SVIDs are 1, 2, 3 and so
-//! on; every figure is what the two ends gave.
+//! on; every figure is what the two ends gave. The headers that are written here are at 2.0, and two
+//! ends that are joined speak 2.1.
 
 mod ends;
 

@@ -5,7 +5,10 @@ use crate::stream::{print_hex, print_lines};
 use std::io::{self, BufRead, Write};
 
 pub fn print_answers(input: &mut impl BufRead, output: &mut impl Write) -> io::Result<()> {
-    writeln!(output, "event refusal length buffer standing page count")?;
+    writeln!(
+        output,
+        "event refusal length buffer standing page count edition"
+    )?;
     let mut run = Run::default();
     print_lines("events", input, output, |number, input, output| {
         let event = Event::take(input)?;
@@ -27,5 +30,6 @@ fn print_answer(
     }
     let page = run.dock().page();
     let count = run.dock().svid_count();
-    writeln!(output, " {} {page} {count}", run.standing())
+    let edition = run.dock().edition();
+    writeln!(output, " {} {page} {count} {edition}", run.standing())
 }

@@ -2,6 +2,7 @@
 
 mod damage;
 mod drawn;
+mod editions;
 mod lists;
 mod loads;
 mod policy;
@@ -13,6 +14,7 @@ mod unloaded;
 use super::run::WHOLE_ROOM;
 use super::{Event, Outcome, Run};
 use crate::dock::{PolicyAnswer, Request, Standing};
+use crate::edition::Edition;
 use crate::header::Header;
 use crate::messages::{
     bytes_of, ENTER, EXIT, IDENTITY, LAST_COMMAND, LAST_MODE_POSITION, LAST_POSITION, MODES,
@@ -58,6 +60,7 @@ pub fn generate(seed: u64) -> Vec<Event> {
     generator.not_awaited();
     generator.damage();
     generator.reserved();
+    generator.editions();
     generator.drawn();
     generator.events
 }
@@ -89,8 +92,24 @@ impl Generator {
         }
     }
 
-    /// A good request of the command, drawn in all that its row leaves free.
+    /// A good request of the command, in a version that is read, and with bit 5 clear or set.
     fn ask(&mut self, command: u8) -> Outcome {
+        let (header, after_header) = self.request(command);
+        let header = header.of_another_maker(&mut self.random);
+        self.message(header, after_header)
+    }
+
+    /// The same at that edition.
+    fn ask_at(&mut self, edition: Edition, command: u8) -> Outcome {
+        let (header, after_header) = self.request(command);
+        let header = header.of_another_maker(&mut self.random);
+        let header = header.read_as(edition, &mut self.random);
+        self.message(header, after_header)
+    }
+
+    /// The header of a request and the number of objects after it, drawn in all that the command's
+    /// row leaves free.
+    fn request(&mut self, command: u8) -> (Header, usize) {
         let svid = match command {
             IDENTITY | SVIDS => PD_SID,
             MODES | ENTER | EXIT => self.random.svid_but_zero(),
@@ -108,9 +127,7 @@ impl Generator {
             IDENTITY | SVIDS | MODES | EXIT => 0,
             _ => self.random.below(MOST_OBJECTS),
         };
-        let header = Header::ours(svid, command, REQ, position);
-        let header = header.of_another_maker(&mut self.random);
-        self.message(header, after_header)
+        (Header::ours(svid, command, REQ, position), after_header)
     }
 
     /// Policy's answer to the last request it was asked about.

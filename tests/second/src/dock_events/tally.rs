@@ -1,14 +1,17 @@
 //! Counts what a stream of dock events reaches, and tells what it never reaches.
 
+mod editions;
+
 use super::event::KINDS;
 use super::run::{ASKING, READY, SENDING};
-use super::{Event, Run};
+use super::{Event, Outcome, Run};
 use crate::dock::MOST_SVIDS;
 use crate::messages::{has_reserved, read, ATTENTION, LAST_COMMAND};
 use crate::refusals::{
     ACCEPTED, BROKEN_LIMITS, NOT_AWAITED, NOT_STRUCTURED, NOT_TAKEN_NOW, NOT_WHOLE_OBJECTS,
     SHORT_BUFFER, UNREAD_MAJOR, WRONG_SHAPE,
 };
+use editions::{Editions, Step};
 use std::collections::BTreeMap;
 use std::fmt;
 
@@ -35,13 +38,14 @@ pub struct Tally {
     lists: BTreeMap<usize, usize>,
     /// By the command of a request with bit 5 that was accepted.
     reserved: BTreeMap<u8, usize>,
+    editions: Editions,
 }
 
 impl Tally {
     pub fn count(&mut self, event: &Event) {
         let pair = (event.kind(), self.run.standing());
         *self.pairs.entry(pair).or_default() += 1;
-        let refusal = self.run.take(event).refusal;
+        let refusal = self.take(event).refusal;
         *self.refusals.entry(refusal).or_default() += 1;
         if matches!(event, Event::Load { .. }) && refusal == ACCEPTED {
             let length = self.run.dock().svid_count();
@@ -55,8 +59,23 @@ impl Tally {
         }
     }
 
-    /// A line for each refusal, pair and length of a list that never occurred, and for each command
-    /// whose request was never accepted with bit 5.
+    /// What the event leads to, counted by editions.
+    fn take(&mut self, event: &Event) -> Outcome {
+        let (before, standing) = (self.run.dock().clone(), self.run.standing());
+        let outcome = self.run.take(event);
+        let step = Step {
+            before: &before,
+            standing,
+            outcome,
+            sent: &self.run.buffer()[..outcome.length],
+            after: self.run.dock(),
+        };
+        self.editions.count(event, &step);
+        outcome
+    }
+
+    /// A line for each refusal, pair and length of a list that never occurred, for each command
+    /// whose request was never accepted with bit 5, and for all that is missing of editions.
     pub fn missing(&self) -> Vec<String> {
         let refusals = REFUSALS
             .iter()
@@ -74,7 +93,8 @@ impl Tally {
             .filter(|&command| command != ATTENTION && !self.reserved.contains_key(&command))
             .map(|command| format!("command {command} with bit 5 was never accepted"));
         let first = refusals.chain(pairs).chain(lists);
-        first.chain(reserved).collect()
+        let of_editions = self.editions.missing();
+        first.chain(reserved).chain(of_editions).collect()
     }
 }
 
@@ -94,6 +114,7 @@ impl fmt::Display for Tally {
         )?;
         let loads: usize = self.lists.values().sum();
         let lengths = self.lists.len();
-        write!(formatter, "lists loaded: {loads}, of {lengths} lengths")
+        writeln!(formatter, "lists loaded: {loads}, of {lengths} lengths")?;
+        write!(formatter, "{}", self.editions)
     }
 }

@@ -3,6 +3,7 @@
 use super::side_state::{named_positions, SideState};
 use super::{Accepted, Answer, Candidate, Laptop, Reason, Runs, Told, MOST_PAGES};
 use crate::catalogue::Catalogue;
+use crate::edition::OURS;
 use crate::messages::{self, Message, ACK, ATTENTION, ENTER, IDENTITY, MODES, NAK, REQ, SVIDS};
 use crate::pages::{take_page, Taken};
 use crate::refusals::{NOT_AWAITED, NO_END, VOIDED};
@@ -50,7 +51,7 @@ impl SideState {
     /// what candidate it leaves; a refusal leaves none.
     fn take_answer(&mut self, message: &Message, runs: &mut Runs) -> Result<Option<Reason>, u8> {
         self.candidate = match (message.command, mem::take(&mut self.candidate)) {
-            (IDENTITY, _) => identity_answer(message),
+            (IDENTITY, _) => self.identity_answer(message),
             (SVIDS, Candidate::ListOpen(gathered)) => self.list_answer(gathered, message, runs)?,
             (MODES, Candidate::ListDone(gathered)) => self.modes_answer(gathered, message, runs)?,
             (_, candidate) => {
@@ -59,6 +60,17 @@ impl SideState {
             }
         };
         Ok(None)
+    }
+
+    /// After an ACK the side's edition is the lower of that answer's and ours.
+    fn identity_answer(&mut self, message: &Message) -> Candidate {
+        match message.kind {
+            ACK => {
+                self.edition = message.edition.lower(OURS);
+                Candidate::ListOpen(Catalogue::of_identity(message.objects.as_slice()))
+            }
+            _ => Candidate::None,
+        }
     }
 
     fn list_answer(
@@ -124,12 +136,5 @@ impl SideState {
             NAK => Some(Reason::Nak),
             _ => Some(Reason::Busy),
         }
-    }
-}
-
-fn identity_answer(message: &Message) -> Candidate {
-    match message.kind {
-        ACK => Candidate::ListOpen(Catalogue::of_identity(message.objects.as_slice())),
-        _ => Candidate::None,
     }
 }

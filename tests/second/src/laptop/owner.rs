@@ -3,6 +3,7 @@
 
 use super::side_state::{named_positions, SideState};
 use super::{Accepted, Answer, Awaited, Candidate, Laptop, Runs};
+use crate::edition::OURS;
 use crate::messages::{
     self, Request, ENTER, EXIT, IDENTITY, LAST_POSITION, MODES, OBJECT_BYTES, PD_SID, REQ, SVIDS,
 };
@@ -72,14 +73,21 @@ impl Laptop {
         Ok(())
     }
 
-    /// Writes the request and awaits its answer, or refuses with 11 and stays as it was.
+    /// Writes the request and awaits its answer, or refuses with 11 and stays as it was. Identity
+    /// is sent at our edition, all else at the side's.
     fn send(&mut self, side: Side, svid: u16, command: u8, position: u8, out: &mut [u8]) -> Answer {
-        let refusal = messages::write(svid, command, REQ, position, &[], out);
+        let state = &mut self.states[side];
+        let edition = match command {
+            IDENTITY => OURS,
+            _ => state.edition,
+        };
+        let refusal = messages::write(svid, command, REQ, position, edition.number(), &[], out);
         if refusal != ACCEPTED {
             return Err(refusal);
         }
+        state.edition = edition;
         if command == IDENTITY {
-            self.states[side].page_count = 0;
+            state.page_count = 0;
         }
         let request = Request {
             svid,

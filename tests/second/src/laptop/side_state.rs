@@ -1,8 +1,9 @@
-//! What the laptop end has of one side: the candidate, the held catalogue, the page count and the
-//! entered modes.
+//! What the laptop end has of one side: the candidate, the held catalogue, the page count, the
+//! edition and the entered modes.
 
 use super::Candidate;
 use crate::catalogue::Catalogue;
+use crate::edition::Edition;
 use crate::messages::{LAST_MODE_POSITION, LAST_POSITION};
 use std::collections::BTreeMap;
 
@@ -14,6 +15,8 @@ pub struct SideState {
     pub candidate: Candidate,
     pub held: Option<Catalogue>,
     pub page_count: usize,
+    /// That of the last Identity ACK since Identity went out, or ours.
+    pub edition: Edition,
     /// A set bit for each entered position, by SVID.
     pub entered: BTreeMap<u16, u8>,
 }

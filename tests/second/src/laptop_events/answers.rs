@@ -9,7 +9,8 @@ use crate::stream::{print_hex, print_lines, Place, Stop};
 use std::io::{self, BufRead, Write};
 
 const HEADING: &str = "stream event side refusal sent output told awaited candidate pages held \
-    candidate_run held_run catalogue report other_candidate other_pages other_held";
+    edition candidate_run held_run catalogue report other_candidate other_pages other_held \
+    other_edition";
 
 pub fn print_answers(input: &mut impl BufRead, output: &mut impl Write) -> io::Result<()> {
     writeln!(output, "{HEADING}")?;
@@ -90,10 +91,11 @@ fn print_other(laptop: &Laptop, other: Side, output: &mut impl Write) -> io::Res
     writeln!(output, " {}", state_of(laptop, other))
 }
 
-/// The candidate, the page count and the number of held SVIDs.
+/// The candidate, the page count, the number of held SVIDs and the edition.
 fn state_of(laptop: &Laptop, side: Side) -> String {
     let candidate = fields::candidate(laptop.candidate(side));
     let pages = laptop.page_count(side);
     let held = fields::held_count(laptop, side);
-    format!("{candidate} {pages} {held}")
+    let edition = laptop.edition(side);
+    format!("{candidate} {pages} {held} {edition}")
 }

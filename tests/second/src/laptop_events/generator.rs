@@ -8,6 +8,7 @@ mod readings;
 
 use super::event::MOST_CATALOGUE_ROOM;
 use super::{Event, Outcome, Run};
+use crate::edition::Edition;
 use crate::fields::{LIST_DONE, LIST_OPEN, NO_CANDIDATE};
 use crate::laptop::Candidate;
 use crate::messages::bytes_of;
@@ -31,9 +32,9 @@ struct Generator {
     random: Random,
     /// The laptop under the events so far.
     run: Run,
-    /// By the kind of event, its side's candidate and what is awaited.
-    situations: BTreeSet<(u8, Situation)>,
-    /// By side, those in which its catalogue was written.
+    /// By the kind of event and its side's edition, its candidate and what is awaited.
+    situations: BTreeSet<(u8, Edition, Situation)>,
+    /// By side, those in which its catalogue was written and a damaged message came.
     written: BTreeSet<(Side, Situation)>,
     events: Vec<Event>,
 }
@@ -108,11 +109,13 @@ impl Generator {
     fn among(&mut self, event: &Event) {
         let side = event.side().unwrap_or(Side::Partner);
         let situation = self.situation(side);
-        if self.situations.insert((event.kind(), situation)) {
+        let edition = self.run.laptop().edition(side);
+        if self.situations.insert((event.kind(), edition, situation)) {
             self.with_each_short_length(event);
         }
         if self.written.insert((side, situation)) {
             self.write_with_all_runs(side, MOST_CATALOGUE_ROOM);
+            self.damaged(event);
         }
         if self.is_seldom() {
             self.damaged(event);

@@ -30,6 +30,14 @@ pub struct Outcome {
     pub report: Option<u32>,
 }
 
+impl Outcome {
+    /// The header of what is sent, which is a request of one object.
+    pub fn header(&self) -> Option<u32> {
+        let bytes = self.sent.first_chunk();
+        bytes.map(|bytes| u32::from_le_bytes(*bytes))
+    }
+}
+
 impl Default for Run {
     fn default() -> Self {
         Run {

@@ -1,6 +1,8 @@
 //! Counts what streams of laptop events reach that their lines do not tell, by side: damaged messages,
-//! messages with bit 5, late answers, repeats, pages after the two hundredth, and what one side does
-//! while the other waits or gathers.
+//! messages with bit 5, late answers, repeats, pages after the two hundredth, what one side does
+//! while the other waits or gathers, and editions.
+
+mod editions;
 
 use super::{Event, Outcome, Run};
 use crate::call::Call;
@@ -10,6 +12,7 @@ use crate::messages::{has_reserved, read, Message, ACK, ENTER, EXIT, IDENTITY, M
 use crate::pages::MOST_SVIDS;
 use crate::refusals::{ACCEPTED, NOT_AWAITED, NOT_WHOLE_OBJECTS, WRONG_SHAPE};
 use crate::side::Side;
+use crate::side_editions::{self, SideEditions};
 use crate::two_sides::{self, Step};
 
 const STREAMS: &str = "streams";
@@ -25,6 +28,7 @@ pub struct Tally {
     run: Run,
     /// Each request whose wait a timer or a protocol error has ended, until an answer comes.
     unanswered: Vec<Awaited>,
+    side_editions: SideEditions,
     counts: Counts,
 }
 
@@ -33,6 +37,7 @@ impl Tally {
     pub fn count_stream(&mut self, events: &[Event]) {
         self.run = Run::default();
         self.unanswered.clear();
+        self.side_editions = SideEditions::default();
         self.counts.add(STREAMS.to_string());
         for event in events {
             self.count(event);
@@ -48,12 +53,19 @@ impl Tally {
             told: outcome.told,
             after: self.run.laptop(),
         };
-        let of_sides = match event {
-            Event::Message { side, bytes } => step.of_message(*side, bytes),
-            Event::Call(call) => step.of_call(*call),
-            _ => Vec::new(),
-        };
-        of_sides.into_iter().for_each(|name| self.counts.add(name));
+        let mut names = editions::names_of(event, &before, &outcome, step.after);
+        match event {
+            Event::Message { side, bytes } => {
+                names.extend(step.of_message(*side, bytes));
+                names.extend(self.side_editions.of_message(&step, *side, bytes));
+            }
+            Event::Call(call) => {
+                names.extend(step.of_call(*call));
+                names.extend(self.side_editions.of_call(&step, *call, outcome.header()));
+            }
+            _ => {}
+        }
+        names.into_iter().for_each(|name| self.counts.add(name));
         match event {
             Event::Message { side, bytes } => self.count_message(*side, bytes, &before, &outcome),
             Event::Call(call) => self.end_wait(*call, &before, &outcome),
@@ -156,7 +168,8 @@ fn names() -> Vec<String> {
         names.extend(commands.map(|command| awaiting(DAMAGED, side, command)));
         names.extend(commands.map(|command| awaiting(RESERVED, side, command)));
     }
-    [names, two_sides::names(), two_sides::short_run_names()].concat()
+    let of_sides = [two_sides::names(), two_sides::short_run_names()].concat();
+    [names, of_sides, side_editions::names(), editions::names()].concat()
 }
 
 fn lists() -> Vec<String> {

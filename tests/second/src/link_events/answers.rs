@@ -8,7 +8,8 @@ use crate::stream::{print_lines, Place, Stop};
 use std::io::{self, BufRead, Write};
 
 const HEADING: &str = "stream event side permitted refusal \
-    pages candidate held catalogue page lost other_pages other_candidate other_held";
+    pages candidate held catalogue page lost edition dock_edition \
+    other_pages other_candidate other_held other_edition";
 
 /// A stream under its events so far.
 struct Course {
@@ -81,8 +82,10 @@ fn print_answer(
     let far_end = system.far_end(side);
     let (page, lost) = (far_end.dock().page(), far_end.confirmations_lost());
     write!(output, " {catalogue} {page} {lost} ")?;
+    let [edition, other_edition] = [side, side.other()].map(|side| system.laptop().edition(side));
+    write!(output, "{edition} {} ", far_end.dock().edition())?;
     print_gathering(system, side.other(), output)?;
-    writeln!(output)
+    writeln!(output, " {other_edition}")
 }
 
 /// The page count, the candidate and the number of held SVIDs of a side.

@@ -1,9 +1,12 @@
 //! Demand 3 on both sides (02, R-4), checked at every event: on the side that the event concerns it
-//! is the demand of one side, and of the other side nothing changes.
+//! is the demand of one side, with the rules of editions (02, R-5), and of the other side nothing
+//! changes.
 
+mod editions;
 mod one_side;
 
 use super::{Event, FarEnd, Outcome, System};
+use crate::edition::Edition;
 use crate::laptop::Candidate;
 use crate::lent_runs::LentRuns;
 use crate::messages::Request;
@@ -12,6 +15,7 @@ use crate::side::{Side, Sides};
 use one_side::SideDemand;
 use std::collections::BTreeMap;
 
+pub use editions::{ANSWER_AT_OTHER_EDITION, REQUEST_AT_OTHER_EDITION};
 pub use one_side::{
     CHANGED_EARLY, ENDED_UNFINISHED, NEITHER_OLD_NOR_WHOLE, NOT_LOWERED, NOT_PUBLISHED,
     REFUSED_UNFAIRLY, WRONG_LIST, WRONG_SUM,
@@ -26,8 +30,12 @@ pub struct Observed {
     pub held: Option<Vec<u8>>,
     pub candidate: Candidate,
     pub awaited: Option<Request>,
+    /// The request under way.
+    pub request: Option<Vec<u8>>,
     /// The answer under way.
     pub answer: Option<Vec<u8>>,
+    /// The laptop's.
+    pub edition: Edition,
     pub page_count: usize,
     pub confirmations_lost: usize,
     /// A set bit for each entered position, by SVID.
@@ -48,7 +56,9 @@ impl Observed {
             held: system.held_bytes(side),
             candidate: laptop.candidate(side).clone(),
             awaited: laptop.awaited_from(side),
+            request: far_end.link().request().map(<[u8]>::to_vec),
             answer: far_end.link().answer().map(<[u8]>::to_vec),
+            edition: laptop.edition(side),
             page_count: laptop.page_count(side),
             confirmations_lost: far_end.confirmations_lost(),
             entered: laptop.entered(side).clone(),

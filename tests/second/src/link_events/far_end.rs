@@ -6,6 +6,7 @@ mod begin;
 use super::link::{Heard, Link};
 use super::{Data, LinkEvent};
 use crate::dock::{Dock, PolicyAnswer, Standing};
+use crate::edition::Edition;
 use crate::messages::{MODES, MOST_OBJECTS, OBJECT_BYTES, SVIDS};
 use crate::pages::PAGE_SVIDS;
 use crate::refusals::NOT_TAKEN_NOW;
@@ -18,6 +19,7 @@ pub struct FarEnd {
     pub(super) link: Link,
     dock: Dock,
     data: Rc<Data>,
+    highest: Edition,
     confirmations_lost: usize,
 }
 
@@ -32,6 +34,11 @@ impl FarEnd {
 
     pub fn data(&self) -> &Data {
         &self.data
+    }
+
+    /// The highest edition that the dock speaks.
+    pub fn highest(&self) -> Edition {
+        self.highest
     }
 
     /// How many pages before the last, counted since the list was opened, the dock never hears to

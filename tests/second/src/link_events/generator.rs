@@ -1,9 +1,10 @@
 //! Makes the start and the events: gatherings without losses, with late answers, with pages that
-//! stay unconfirmed up to the two hundredth, and drawn ones; and beside those of one side, events of
-//! the other.
+//! stay unconfirmed up to the two hundredth, and drawn ones, of docks of each edition; and beside
+//! those of one side, events of the other.
 
 mod beside;
 mod drawn;
+mod in_vain;
 mod late;
 mod short;
 mod sort;
@@ -13,6 +14,7 @@ use super::{Data, Event, FarEnd, LinkEvent, Outcome, SideStart, Start, System};
 use crate::call::Call;
 use crate::catalogue::MOST_MODES;
 use crate::dock::{LEAST_IDENTITY, MOST_IDENTITY, MOST_SVIDS};
+use crate::edition::Edition;
 use crate::random::Random;
 use crate::side::{Side, Sides};
 use sort::Sort;
@@ -46,6 +48,7 @@ pub fn generate(seed: u64) -> (Start, Vec<Event>) {
         generator.late();
         generator.gather();
         generator.unconfirmed();
+        generator.each_identity_in_vain();
     }
     generator.drawn();
     (start, generator.events)
@@ -80,6 +83,7 @@ fn drawn_start(random: &mut Random, length: usize) -> SideStart {
         data: drawn_data(random, length),
         page: random.byte() % 9,
         holds_old: random.below(2) == 1,
+        highest: random.one_of(&Edition::ALL),
     }
 }
 

@@ -36,6 +36,11 @@ impl Link {
         self.request.is_some()
     }
 
+    /// The request that is under way.
+    pub fn request(&self) -> Option<&[u8]> {
+        self.request.as_deref()
+    }
+
     pub fn request_sent(&mut self, bytes: &[u8]) {
         self.request = Some(bytes.to_vec());
     }

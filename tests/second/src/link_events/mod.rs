@@ -1,6 +1,6 @@
 //! The laptop end and two far ends, each joined to it by the link of demand 3 (01, "The link and the
-//! fair dock of demand 3"; 02, R-4): the events, their stream, making and counting, and the demand
-//! itself.
+//! fair dock of demand 3"; 02, R-4 and R-5): the events, their stream, making and counting, and the
+//! demand itself.
 
 pub mod answers;
 pub mod checks;

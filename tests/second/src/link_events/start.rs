@@ -1,8 +1,9 @@
-//! What a stream of link events begins with, of each side: the dock's data, its first page, and
-//! whether the laptop holds an old catalogue.
+//! What a stream of link events begins with, of each side: the dock's data, its first page, whether
+//! the laptop holds an old catalogue, and the dock's highest edition.
 
 use crate::catalogue::{Catalogue, MOST_CATALOGUE_BYTES, MOST_MODES, RUN_WORDS};
 use crate::dock::{LEAST_IDENTITY, MOST_IDENTITY, MOST_SVIDS};
+use crate::edition::Edition;
 use crate::pages::is_list;
 use crate::side::Sides;
 use crate::stream::{count_byte, put_objects, take_bytes, take_objects, Stop};
@@ -43,6 +44,8 @@ pub struct SideStart {
     /// How many pages the dock has sent before.
     pub page: u8,
     pub holds_old: bool,
+    /// The highest edition that the dock speaks.
+    pub highest: Edition,
 }
 
 impl Data {
@@ -127,16 +130,20 @@ impl SideStart {
         let data = Data::take(input)?;
         let [page] = take_bytes(input)?;
         let holds_old = take_count(input, 0..=1)? == 1;
+        let [number] = take_bytes(input)?;
+        let highest = Edition::of_number(number).ok_or(BadData)?;
         Ok(SideStart {
             data,
             page,
             holds_old,
+            highest,
         })
     }
 
     fn put(&self, output: &mut impl Write) -> io::Result<()> {
         self.data.put(output)?;
-        output.write_all(&[self.page, u8::from(self.holds_old)])
+        let holds_old = u8::from(self.holds_old);
+        output.write_all(&[self.page, holds_old, self.highest.number()])
     }
 }
 

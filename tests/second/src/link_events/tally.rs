@@ -1,5 +1,6 @@
 //! Counts what streams of link events reach, and tells what they never reach.
 
+mod editions;
 mod names;
 
 use super::checks::{Demand, Observed};
@@ -8,9 +9,10 @@ use super::{Event, LinkEvent, Outcome, Start, System};
 use crate::call::Call;
 use crate::counts::Counts;
 use crate::laptop::Candidate;
-use crate::messages::{read, BUSY};
+use crate::messages::{read, Message, BUSY};
 use crate::refusals::{ACCEPTED, AWAITING, NOT_AWAITED};
 use crate::side::{Side, Sides};
+use editions::{Editions, COMPLETED_APART};
 use names::*;
 
 pub use names::{all, of_one_stream};
@@ -54,6 +56,11 @@ impl Happened<'_> {
     fn link(&self) -> &Link {
         self.before[self.side].far_end.link()
     }
+
+    /// The answer that was under way to the laptop.
+    fn answer(&self) -> Option<Message> {
+        self.link().answer().and_then(|bytes| read(bytes).ok())
+    }
 }
 
 impl Tally {
@@ -61,18 +68,22 @@ impl Tally {
     pub fn count_stream(&mut self, start: &Start, events: &[Event]) -> Result<(), &'static str> {
         let mut system = System::begin(start);
         let mut demand = Demand::of(&system);
+        let mut editions = Editions::default();
         let mut completed = Vec::new();
         for event in events {
             let side = system.side_of(event);
             let outcome = system.take(event);
             let now = Observed::of_both(&system);
-            self.count_event(&Happened {
+            let happened = Happened {
                 event,
                 side,
                 outcome,
                 before: demand.last(),
                 now: &now,
-            });
+            };
+            self.count_event(&happened);
+            let names = editions.names_of(&happened);
+            names.into_iter().for_each(|name| self.counts.add(name));
             let was_needed = demand.still_needed(side);
             demand.check(side, event, outcome, now)?;
             if was_needed > 0 && demand.still_needed(side) == 0 {
@@ -80,11 +91,21 @@ impl Tally {
                 completed.push(side);
             }
         }
+        self.count_ended(start, &completed);
+        Ok(())
+    }
+
+    /// A stream in which gatherings of these sides were completed.
+    fn count_ended(&mut self, start: &Start, completed: &[Side]) {
+        let highest = Sides::each(|side| start[side].highest);
         self.counts.add(STREAMS.to_string());
+        self.counts.add(editions::docks(highest));
         if Side::BOTH.iter().all(|side| completed.contains(side)) {
             self.counts.add(BOTH_COMPLETED.to_string());
+            if highest.partner != highest.cable {
+                self.counts.add(COMPLETED_APART.to_string());
+            }
         }
-        Ok(())
     }
 
     fn count_event(&mut self, happened: &Happened) {
@@ -148,7 +169,7 @@ impl Tally {
         if link.has_request() {
             self.add(side, LATE_TAKEN);
         }
-        let answer = link.answer().and_then(|bytes| read(bytes).ok());
+        let answer = happened.answer();
         if answer.is_some_and(|message| message.kind == BUSY) {
             self.add(side, BUSY_TAKEN);
         }
@@ -178,9 +199,11 @@ impl Tally {
     }
 
     fn count_completed(&mut self, now: &Sides<Observed>, side: Side) {
-        let length = now[side].far_end.data().svids.len();
+        let far_end = &now[side].far_end;
+        let (length, highest) = (far_end.data().svids.len(), far_end.highest());
         self.add(side, COMPLETED);
         self.counts.add(completed(side, length));
+        self.counts.add(editions::completed(side, highest));
         if now[side].confirmations_lost > 0 {
             self.add(side, UNCONFIRMED);
         }

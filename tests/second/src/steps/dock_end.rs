@@ -82,7 +82,8 @@ impl DockEnd {
             Standing::Sending { .. } => "sending".to_string(),
         };
         let (objects, count) = (self.dock.identity_count(), self.dock.svid_count());
-        format!("state {objects} {count} {} {standing}", self.dock.page())
+        let (page, edition) = (self.dock.page(), self.dock.edition().number());
+        format!("state {objects} {count} {page} {standing} {edition}")
     }
 }
 

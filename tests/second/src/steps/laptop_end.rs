@@ -156,7 +156,7 @@ impl LaptopEnd {
         refused(refusal, &parts)
     }
 
-    /// The twenty numbers; one that stands for nothing is a dash.
+    /// The twenty-two numbers; one that stands for nothing is a dash.
     fn state(&self) -> String {
         let awaited = match self.laptop.awaited() {
             Some(Awaited { side, request }) => format!(
@@ -183,7 +183,8 @@ impl LaptopEnd {
             None => "0 - -".to_string(),
         };
         let pages = self.laptop.page_count(side);
-        format!("{candidate} {pages} {held}")
+        let edition = self.laptop.edition(side).number();
+        format!("{candidate} {pages} {held} {edition}")
     }
 }
 

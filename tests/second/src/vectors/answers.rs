@@ -25,11 +25,20 @@ fn print_answer(number: usize, vector: &Vector, output: &mut impl Write) -> io::
             command,
             kind,
             position,
+            edition,
             room,
             objects,
         } => {
             let mut buffer = vec![UNWRITTEN; usize::from(*room)];
-            let answer = messages::write(*svid, *command, *kind, *position, objects, &mut buffer);
+            let answer = messages::write(
+                *svid,
+                *command,
+                *kind,
+                *position,
+                *edition,
+                objects,
+                &mut buffer,
+            );
             write!(output, "{number} write {answer}")?;
             print_buffer(&buffer, output)?;
         }
@@ -44,8 +53,8 @@ fn print_reading(bytes: &[u8], output: &mut impl Write) -> io::Result<()> {
     };
     write!(
         output,
-        "{ACCEPTED} {:04X} {} {} {}",
-        message.svid, message.command, message.kind, message.position
+        "{ACCEPTED} {} {:04X} {} {} {}",
+        message.edition, message.svid, message.command, message.kind, message.position
     )?;
     message
         .objects

@@ -1,9 +1,10 @@
 //! Makes the vectors: every row of 01's table and its edges, then damage of every kind.
 
 use super::Vector;
+use crate::edition::Edition;
 use crate::header::{samples, Header};
 use crate::messages::{
-    ACK, BUSY, EXIT, IDENTITY, LAST_COMMAND, LAST_KIND, LAST_POSITION, MOST_OBJECTS, NAK,
+    ACK, BUSY, EXIT, IDENTITY, LAST_COMMAND, LAST_KIND, LAST_POSITION, MODES, MOST_OBJECTS, NAK,
     OBJECT_BYTES, PD_SID, REQ, SVIDS,
 };
 use crate::random::Random;
@@ -21,6 +22,8 @@ const LARGE_ROOMS: [u8; 4] = [64, 127, 128, 255];
 /// Numbers of objects after the header; with 63 the length comes round to 0 in a byte, with 255 the
 /// number of objects does.
 const LARGE_COUNTS: [usize; 7] = [8, 9, 15, 16, 63, 64, 255];
+/// Numbers close to those of the editions, and the ends of a byte.
+pub const NO_EDITIONS: [u8; 7] = [0, 1, 9, 11, 19, 22, u8::MAX];
 const DRAWN_OF_EACH: usize = 90;
 
 struct Generator {
@@ -43,6 +46,7 @@ pub fn generate(seed: u64) -> Vec<Vector> {
     generator.faults();
     generator.flipped_bits();
     generator.fields_too_large();
+    generator.no_editions();
     generator.too_many_objects();
     generator.rooms();
     generator.drawn();
@@ -77,13 +81,20 @@ impl Generator {
         self.read_bytes(bytes);
     }
 
+    /// A header to write at a drawn edition.
     fn write(&mut self, header: Header, after_header: usize, room: u8) {
+        let edition = self.random.one_of(&Edition::ALL);
+        self.write_at(edition.number(), header, after_header, room);
+    }
+
+    fn write_at(&mut self, edition: u8, header: Header, after_header: usize, room: u8) {
         let objects = self.objects(after_header);
         self.vectors.push(Vector::Write {
             svid: header.svid,
             command: header.command,
             kind: header.kind,
             position: header.position,
+            edition,
             room,
             objects,
         });
@@ -95,6 +106,7 @@ impl Generator {
             self.writes_of_row(command, kind, after_header);
         }
         self.writes_past_row(Header::usual(command, kind));
+        self.editions_of_row(Header::usual(command, kind));
     }
 
     fn reads_of_row(&mut self, command: u8, kind: u8, after_header: usize) {
@@ -102,8 +114,8 @@ impl Generator {
             let header = header.of_another_maker(&mut self.random);
             self.read(header.word(), after_header);
         }
-        let header = Header::usual(command, kind).with_reserved();
-        self.read(header.word(), after_header);
+        let header = Header::usual(command, kind).of_another_maker(&mut self.random);
+        self.read(header.with_reserved().word(), after_header);
     }
 
     /// The usual header with a byte too few, just enough and a byte too many. The other headers
@@ -125,6 +137,20 @@ impl Generator {
         self.write(usual, MOST_OBJECTS, u8::MAX);
         let position = LAST_POSITION + 1;
         self.write(Header { position, ..usual }, 0, needed_room(0));
+    }
+
+    /// A number of objects that the row takes, if it takes any, read and written at each edition.
+    fn editions_of_row(&mut self, usual: Header) {
+        let after_header = match (usual.command, usual.kind) {
+            (IDENTITY | SVIDS | MODES, ACK) => 3,
+            _ => 0,
+        };
+        for edition in Edition::ALL {
+            let header = usual.read_as(edition, &mut self.random);
+            self.read(header.word(), after_header);
+            let room = needed_room(after_header);
+            self.write_at(edition.number(), usual, after_header, room);
+        }
     }
 
     /// Headers with the SVIDs and positions to try in a row, the edges among them.
@@ -189,6 +215,21 @@ impl Generator {
         }
     }
 
+    /// Every number that is no edition, with a request; some of them with a sample of each row, also
+    /// without room.
+    fn no_editions(&mut self) {
+        let numbers = (0..=u8::MAX).filter(|&number| Edition::of_number(number).is_none());
+        for number in numbers {
+            self.write_at(number, Header::usual(IDENTITY, REQ), 0, needed_room(0));
+        }
+        for number in NO_EDITIONS {
+            for (sample, after_header) in samples() {
+                let room = self.random.one_of(&[0, needed_room(after_header)]);
+                self.write_at(number, sample, after_header, room);
+            }
+        }
+    }
+
     fn too_many_objects(&mut self) {
         for after_header in LARGE_COUNTS {
             self.write(Header::usual(IDENTITY, ACK), after_header, u8::MAX);
@@ -220,7 +261,8 @@ impl Generator {
             let header = self.drawn_header();
             let after_header = self.random.below(MOST_OBJECTS);
             let room = self.random.byte() % (LAST_CLOSE_ROOM + 1);
-            self.write(header, after_header, room);
+            let edition = self.drawn_edition();
+            self.write_at(edition, header, after_header, room);
         }
     }
 
@@ -231,7 +273,15 @@ impl Generator {
             self.random.byte() & LAST_KIND,
             self.random.byte() & LAST_POSITION,
         );
-        header.of_another_maker(&mut self.random)
+        header.of_any_version(&mut self.random)
+    }
+
+    /// The number of an edition, or at times any.
+    fn drawn_edition(&mut self) -> u8 {
+        match self.random.below(4) {
+            0 => self.random.byte(),
+            _ => self.random.one_of(&Edition::ALL).number(),
+        }
     }
 }
 

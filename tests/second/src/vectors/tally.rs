@@ -1,5 +1,7 @@
 //! Counts how often each answer occurs in a stream of vectors, and tells what never occurs.
 
+mod editions;
+
 use super::Vector;
 use crate::messages::{
     self, has_reserved, ATTENTION, EXIT, IDENTITY, KIND_BIT, LAST_COMMAND, LAST_KIND, NAK, REQ,
@@ -7,6 +9,7 @@ use crate::messages::{
 use crate::refusals::{
     ACCEPTED, NOT_STRUCTURED, NOT_WHOLE_OBJECTS, SHORT_BUFFER, UNREAD_MAJOR, WRONG_SHAPE,
 };
+use editions::Editions;
 use std::collections::{BTreeMap, BTreeSet};
 use std::fmt;
 
@@ -30,6 +33,7 @@ pub struct Tally {
     pairs: BTreeSet<(u8, u8)>,
     /// By command and type, the messages with bit 5 that were accepted.
     reserved: BTreeMap<(u8, u8), usize>,
+    editions: Editions,
 }
 
 impl Tally {
@@ -41,12 +45,21 @@ impl Tally {
                 command,
                 kind,
                 position,
+                edition,
                 room,
                 objects,
             } => {
                 let mut buffer = vec![0; usize::from(*room)];
-                let answer =
-                    messages::write(*svid, *command, *kind, *position, objects, &mut buffer);
+                let answer = messages::write(
+                    *svid,
+                    *command,
+                    *kind,
+                    *position,
+                    *edition,
+                    objects,
+                    &mut buffer,
+                );
+                self.editions.count_write(*command, *kind, *edition, answer);
                 (WRITE, answer)
             }
         };
@@ -54,7 +67,9 @@ impl Tally {
     }
 
     fn count_read(&mut self, bytes: &[u8]) -> u8 {
-        let answer = messages::read(bytes).err().unwrap_or(ACCEPTED);
+        let reading = messages::read(bytes);
+        self.editions.count_read(bytes, reading);
+        let answer = reading.err().unwrap_or(ACCEPTED);
         if matches!(answer, ACCEPTED | WRONG_SHAPE) {
             let pair = (bytes[0] & LAST_COMMAND, bytes[0] >> KIND_BIT);
             self.pairs.insert(pair);
@@ -66,7 +81,8 @@ impl Tally {
     }
 
     /// A line for each required answer, and for each command and type, that never occurred, and for
-    /// each that the table takes and that was never accepted with bit 5.
+    /// each that the table takes and that was never accepted with bit 5; and all that is missing of
+    /// editions.
     pub fn missing(&self) -> Vec<String> {
         let answers = REQUIRED
             .iter()
@@ -81,7 +97,8 @@ impl Tally {
             .map(|(command, kind)| {
                 format!("command {command} type {kind} with bit 5 was never accepted")
             });
-        answers.chain(pairs).chain(reserved).collect()
+        let first = answers.chain(pairs).chain(reserved);
+        first.chain(self.editions.missing()).collect()
     }
 }
 
@@ -96,7 +113,8 @@ impl fmt::Display for Tally {
             formatter,
             "messages with bit 5 accepted: {reserved}, of {pairs} pairs of command and type"
         )?;
-        write!(formatter, "pairs of command and type: {}", self.pairs.len())
+        writeln!(formatter, "pairs of command and type: {}", self.pairs.len())?;
+        write!(formatter, "{}", self.editions)
     }
 }
 

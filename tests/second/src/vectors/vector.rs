@@ -16,6 +16,8 @@ pub enum Vector {
         command: u8,
         kind: u8,
         position: u8,
+        /// The number of the edition.
+        edition: u8,
         room: u8,
         objects: Vec<u32>,
     },
@@ -45,13 +47,15 @@ impl Vector {
     }
 
     fn take_write(input: &mut impl Read) -> Result<Self, Stop> {
-        let [svid_low, svid_high, command, kind, position, room, count] = take_bytes(input)?;
+        let [svid_low, svid_high, command, kind, position, edition, room, count] =
+            take_bytes(input)?;
         let objects = take_objects(input, count)?;
         Ok(Vector::Write {
             svid: u16::from_le_bytes([svid_low, svid_high]),
             command,
             kind,
             position,
+            edition,
             room,
             objects,
         })
@@ -68,13 +72,14 @@ impl Vector {
                 command,
                 kind,
                 position,
+                edition,
                 room,
                 objects,
             } => {
                 let [svid_low, svid_high] = svid.to_le_bytes();
                 let count = count_byte(objects);
                 output.write_all(&[
-                    WRITE, svid_low, svid_high, *command, *kind, *position, *room, count,
+                    WRITE, svid_low, svid_high, *command, *kind, *position, *edition, *room, count,
                 ])?;
                 put_objects(objects, output)
             }

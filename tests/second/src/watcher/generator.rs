@@ -6,6 +6,7 @@ mod both_sides;
 mod cases;
 mod damage;
 mod drawn;
+mod editions;
 mod lists;
 mod meanwhile;
 mod messages;
@@ -17,6 +18,7 @@ mod unheld;
 
 use super::{Event, Outcome, Run};
 use crate::call::Call;
+use crate::edition::{Edition, OURS};
 use crate::header::Header;
 use crate::laptop::{Awaited, Candidate};
 use crate::messages::{
@@ -37,6 +39,8 @@ struct Generator {
     side: Side,
     /// The last request sent to each side.
     asked: Sides<Request>,
+    /// The edition of each side's dock, drawn when Identity goes out.
+    docks: Sides<Edition>,
     /// Whether events of the other side come in between.
     interleaves: bool,
     events: Vec<Event>,
@@ -60,6 +64,7 @@ pub fn generate(seed: u64) -> Vec<Event> {
     generator.damage();
     generator.for_each_side(Generator::reserved);
     generator.both_sides();
+    generator.for_each_side(Generator::editions);
     generator.drawn();
     generator.events
 }
@@ -82,6 +87,7 @@ impl Generator {
                 command: IDENTITY,
                 position: 0,
             }),
+            docks: Sides::each(|_| OURS),
             interleaves: false,
             events: Vec::new(),
         }
@@ -108,6 +114,9 @@ impl Generator {
         let outcome = self.run.take(&event);
         if let Some(Awaited { side, request }) = self.run.laptop().awaited() {
             self.asked[side] = request;
+            if outcome.sent.is_some() && request.command == IDENTITY {
+                self.docks[side] = self.random.one_of(&Edition::ALL);
+            }
         }
         self.events.push(event);
         outcome
@@ -144,9 +153,19 @@ impl Generator {
         header_of(self.asked[self.side], kind)
     }
 
-    /// An answer to the last request, in a version that is read, and with bit 5 clear or set.
+    /// The header as the side's dock sends it: mostly at the dock's edition, at times in any version
+    /// that is read, and with bit 5 clear or set.
+    fn of_dock(&mut self, header: Header) -> Header {
+        let header = header.of_another_maker(&mut self.random);
+        if self.random.is_rare() {
+            return header;
+        }
+        header.read_as(self.docks[self.side], &mut self.random)
+    }
+
+    /// An answer to the last request.
     fn answer(&mut self, kind: u8, after: &[u32]) -> Outcome {
-        let header = self.fitting(kind).of_another_maker(&mut self.random);
+        let header = self.of_dock(self.fitting(kind));
         self.message(header, after)
     }
 
@@ -158,7 +177,7 @@ impl Generator {
     /// As such an answer, to any request.
     fn answer_to(&mut self, request: Request, kind: u8) -> Outcome {
         let objects = self.good_objects(request.command, kind);
-        let header = header_of(request, kind).of_another_maker(&mut self.random);
+        let header = self.of_dock(header_of(request, kind));
         self.message(header, &objects)
     }
 
@@ -213,6 +232,11 @@ impl Generator {
     /// Gathers so many full pages, and no end.
     fn gather(&mut self, svids: &[u16], pages: usize) {
         self.open();
+        self.pages(svids, pages);
+    }
+
+    /// So many pages of the list.
+    fn pages(&mut self, svids: &[u16], pages: usize) {
         for number in 0..pages {
             self.page(&page(svids, number).objects);
         }

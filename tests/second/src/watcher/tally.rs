@@ -3,10 +3,11 @@
 use super::event::kinds;
 use super::{Event, Outcome, Run};
 use crate::counts::Counts;
+use crate::edition::Edition;
 use crate::laptop::{Awaited, Candidate, Laptop};
 use crate::messages::{
-    bytes_of, has_reserved, read, ACK, ATTENTION, BUSY, ENTER, EXIT, IDENTITY, LAST_MODE_POSITION,
-    LAST_POSITION, MODES, NAK, REQ, SVIDS,
+    bytes_of, has_reserved, read, version_of, ACK, ATTENTION, BUSY, ENTER, EXIT, IDENTITY,
+    LAST_MAJOR, LAST_MINOR, LAST_MODE_POSITION, LAST_POSITION, MODES, NAK, REQ, SVIDS,
 };
 use crate::pages::MOST_SVIDS;
 use crate::refusals::{
@@ -14,6 +15,7 @@ use crate::refusals::{
     UNREAD_MAJOR, VOIDED, WRONG_SHAPE,
 };
 use crate::side::Side;
+use crate::side_editions::{self, SideEditions};
 use crate::two_sides::{self, Step};
 use std::fmt;
 
@@ -46,6 +48,7 @@ const STATES: [(&str, &[u8]); 3] = [
 #[derive(Default)]
 pub struct Tally {
     run: Run,
+    editions: SideEditions,
     counts: Counts,
 }
 
@@ -60,11 +63,20 @@ impl Tally {
             told: outcome.told,
             after: self.run.laptop(),
         };
-        let of_sides = match event {
-            Event::Message { side, objects } => step.of_message(*side, &bytes_of(objects)),
-            Event::Call(call) => step.of_call(*call),
+        let editions = &mut self.editions;
+        let (of_sides, of_editions) = match event {
+            Event::Message { side, objects } => {
+                let bytes = bytes_of(objects);
+                let of_editions = editions.of_message(&step, *side, &bytes);
+                (step.of_message(*side, &bytes), of_editions)
+            }
+            Event::Call(call) => {
+                let of_editions = editions.of_call(&step, *call, outcome.sent);
+                (step.of_call(*call), of_editions)
+            }
         };
-        of_sides.into_iter().for_each(|name| self.counts.add(name));
+        let names = of_sides.into_iter().chain(of_editions);
+        names.for_each(|name| self.counts.add(name));
         self.count_after(event, &before, &outcome);
     }
 
@@ -83,7 +95,7 @@ impl Tally {
         }
     }
 
-    /// What was sent, published, or accepted with bit 5.
+    /// What was sent, published, accepted with bit 5, or refused for its major.
     fn count_after(&mut self, event: &Event, before: &Laptop, outcome: &Outcome) {
         let laptop = self.run.laptop();
         if let (Some(_), Some(Awaited { side, request })) = (outcome.sent, laptop.awaited()) {
@@ -99,6 +111,11 @@ impl Tally {
             self.counts.add(lists(*side));
         }
         let bytes = bytes_of(objects);
+        if outcome.refusal == UNREAD_MAJOR {
+            let of_header = version_of(&bytes);
+            self.counts
+                .add(unread(*side, of_header.expect("it has a header")));
+        }
         let message = read(&bytes).ok().filter(|_| has_reserved(&bytes));
         if let Some(message) = message.filter(|_| outcome.refusal == ACCEPTED) {
             self.counts.add(RESERVED.to_string());
@@ -133,10 +150,12 @@ fn names() -> Vec<String> {
         names.extend(requests().map(|(command, position)| sent(side, command, position)));
         names.extend(taken().map(|(command, kind)| reserved(side, command, kind)));
         names.push(lists(side));
+        names.extend(unread_versions().map(|version| unread(side, version)));
     }
     names.extend((0..=MOST_SVIDS).map(list));
     names.push(RESERVED.to_string());
     names.extend(two_sides::names());
+    names.extend(side_editions::names());
     names
 }
 
@@ -175,6 +194,12 @@ fn taken() -> impl Iterator<Item = (u8, u8)> {
     answers.chain([(ATTENTION, REQ)])
 }
 
+/// The majors and minors that are not read.
+fn unread_versions() -> impl Iterator<Item = (u8, u8)> {
+    let majors = (0..=LAST_MAJOR).filter(|&major| Edition::of_version(major, 0).is_none());
+    majors.flat_map(|major| (0..=LAST_MINOR).map(move |minor| (major, minor)))
+}
+
 fn wait(awaited: Option<Awaited>) -> String {
     wait_of(awaited.map(|awaited| (awaited.side, awaited.request.command)))
 }
@@ -204,6 +229,10 @@ fn list(length: usize) -> String {
 
 fn lists(side: Side) -> String {
     format!("lists of the {side} published")
+}
+
+fn unread(side: Side, (major, minor): (u8, u8)) -> String {
+    format!("major {major} minor {minor} refused {UNREAD_MAJOR} from the {side}")
 }
 
 fn reserved(side: Side, command: u8, kind: u8) -> String {

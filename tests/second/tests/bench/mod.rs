@@ -89,7 +89,7 @@ impl Bench {
     }
 
     pub fn reopen(&mut self) {
-        assert_eq!(self.exchange(0xFF00_A001, &IDENTITY_ACK), Ok((None, None)));
+        assert_eq!(self.exchange(0xFF00_A801, &IDENTITY_ACK), Ok((None, None)));
     }
 
     /// A list of the SVIDs 1 to `count`, gathered to its end.

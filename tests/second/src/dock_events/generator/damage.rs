@@ -2,10 +2,10 @@
 
 use super::situation::{Situation, STANDINGS};
 use super::{Event, Generator};
-use crate::header::{samples, Header, LAST_MINOR};
+use crate::header::{samples, Header};
 use crate::messages::{
-    ATTENTION, ENTER, IDENTITY, LAST_COMMAND, LAST_POSITION, MOST_AFTER_HEADER, OBJECT_BYTES, REQ,
-    SVIDS,
+    ATTENTION, ENTER, IDENTITY, LAST_COMMAND, LAST_MINOR, LAST_POSITION, MOST_AFTER_HEADER,
+    OBJECT_BYTES, REQ, SVIDS,
 };
 use crate::random::EDGE_SVIDS;
 use crate::refusals::ACCEPTED;

@@ -34,7 +34,7 @@ impl Generator {
     }
 
     fn acknowledge(&mut self, side: Side, command: u8, after: &[u32]) {
-        let header = Header::usual(command, ACK).word();
-        self.push(Event::of_objects(side, &[&[header], after].concat()));
+        let header = Header::usual(command, ACK).of_another_maker(&mut self.random);
+        self.push(Event::of_objects(side, &[&[header.word()], after].concat()));
     }
 }

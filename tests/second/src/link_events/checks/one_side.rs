@@ -2,6 +2,7 @@
 //! dock's whole one; each new answer lowers the number still needed by 1, and what is held changes
 //! when it comes to 0 and then only; and the pages are as many as they must be.
 
+use super::editions::Editions;
 use super::Observed;
 use crate::call::Call;
 use crate::laptop::Candidate;
@@ -25,10 +26,11 @@ pub struct SideDemand {
     whole: Vec<u8>,
     svids: Vec<u16>,
     needed: Needed,
+    editions: Editions,
 }
 
 impl Observed {
-    fn awaits_identity(&self) -> bool {
+    pub fn awaits_identity(&self) -> bool {
         self.awaited
             .is_some_and(|request| request.command == IDENTITY)
     }
@@ -42,6 +44,7 @@ impl SideDemand {
             whole: data.catalogue_bytes(),
             svids: data.svids.clone(),
             needed: Needed::by(data),
+            editions: Editions::of(&first.far_end),
         }
     }
 
@@ -59,6 +62,7 @@ impl SideDemand {
         now: &Observed,
     ) -> Result<(), &'static str> {
         check_refusal(outcome)?;
+        self.editions.check(event, before, now)?;
         let was_needed = self.still_needed();
         let arrival = self.receive(event, outcome, before, now);
         let is_needed = self.still_needed();

@@ -11,7 +11,7 @@ use crate::pages::PAGE_SVIDS;
 use crate::side::Side;
 
 /// A list so short is gathered to its end.
-const FEW_SVIDS: usize = 6;
+pub const FEW_SVIDS: usize = 6;
 
 impl Generator {
     pub(super) fn short(&mut self, sort: Sort) {
@@ -114,7 +114,7 @@ impl Generator {
         let side = self.side;
         let heard = self.random.one_of(&HEARD);
         let exchanges = self.random.below(3);
-        match round % 8 {
+        match round % 9 {
             0 => self.late_with_nothing_awaited(exchanges, heard),
             1 => self.late_with_newer_request(exchanges, heard),
             2 => self.newer_request_first(exchanges, heard),
@@ -122,6 +122,7 @@ impl Generator {
             4 => self.given_beside(exchanges, heard),
             5 => self.calls_beside(exchanges),
             6 => self.few_modes(),
+            7 => self.few_in_vain(length),
             _ => self.failing_exchange(),
         }
         let trouble = self.random.one_of(&TROUBLES);
@@ -132,6 +133,7 @@ impl Generator {
             self.side = side;
             self.leave_all_modes();
             self.gather();
+            self.enter_and_exit();
         }
     }
 

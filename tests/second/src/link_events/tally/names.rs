@@ -1,5 +1,6 @@
 //! The names of what is counted. All but a few are of one side, and begin with it.
 
+use super::editions;
 use crate::link_events::{Event, Start};
 use crate::pages::{MOST_SVIDS, PAGE_SVIDS};
 use crate::refusals::{ACCEPTED, AWAITING, BLOCKED, NOT_AWAITED, NOT_HELD, NOT_TAKEN_NOW, NO_END};
@@ -67,13 +68,19 @@ pub fn of_one_stream(start: &Start) -> Vec<String> {
             out_of_reach.extend([of_side(side, DROPPED_BESIDE), refusal(side, BLOCKED)]);
         }
     }
-    let mut names = all();
+    let mut names = of_any_edition();
     names.retain(|name| !out_of_reach.contains(name));
+    names.extend(editions::of_one_stream(start));
     names
 }
 
-/// Each refusal, permission, sort of event and gathering.
+/// All that is counted.
 pub fn all() -> Vec<String> {
+    [of_any_edition(), editions::all()].concat()
+}
+
+/// Each refusal, permission, sort of event and gathering.
+fn of_any_edition() -> Vec<String> {
     let mut names = [STREAMS, BOTH_COMPLETED].map(str::to_string).to_vec();
     for side in Side::BOTH {
         names.extend(OF_SIDE.map(|name| of_side(side, name)));

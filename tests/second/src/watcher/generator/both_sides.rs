@@ -49,7 +49,7 @@ impl Generator {
     }
 
     /// A page that is not structured, and one of a version that is not read.
-    fn unread(&mut self) {
+    pub(super) fn unread(&mut self) {
         let page = Header::usual(SVIDS, ACK);
         self.message(
             Header {

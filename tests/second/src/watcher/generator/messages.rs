@@ -68,7 +68,8 @@ impl Generator {
             for kind in ANSWERS {
                 self.set_up(situation);
                 let objects = self.good_objects(self.asked[self.side].command, kind);
-                self.message(self.fitting(kind).with_reserved(), &objects);
+                let header = self.of_dock(self.fitting(kind)).with_reserved();
+                self.message(header, &objects);
                 self.next();
             }
         }

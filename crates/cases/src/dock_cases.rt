@@ -1,4 +1,4 @@
-// Cases 1 to 8: what the dock answers to Discover SVIDs, until the page stays.
+// Cases 1 to 8: what the dock answers to Discover SVIDs at 2.0, until the page stays.
 use crate::report::case;
 use crate::report::with_message;
 use crate::report::with_named;
@@ -10,6 +10,7 @@ use dock::Policy;
 use driving::line::print;
 use driving::line::with_decimal;
 use driving::line::with_text;
+use messages::Edition;
 use messages::PD_SID;
 use messages::REQ;
 use messages::SVIDS;
@@ -25,7 +26,7 @@ fn print_answer(number: u64, answer: u64, replied: Replied) {
 
 pub fn print_answers(case: u64, count: usize) {
     let none = [0u32; 0];
-    let request = write(PD_SID, SVIDS, REQ, &none);
+    let request = write(Edition::TwoZero, PD_SID, SVIDS, REQ, &none);
     let mut dock = load(dock::fresh(), count);
     let mut number: u64 = 0;
     while number < BUDGET {

@@ -1,4 +1,4 @@
-// Case 10 and Case L: what the laptop does with answers that are given to it.
+// Case 10 and Case L: what the laptop does with answers that are given to it, all at 2.0.
 use crate::owner::Turn;
 use crate::owner::hear;
 use crate::owner::laptop_of;
@@ -22,6 +22,7 @@ use driving::line::with_text;
 use driving::owning::Owner;
 use driving::owning::fresh;
 use messages::ACK;
+use messages::Edition;
 use messages::IDENTITY;
 use messages::MODES;
 use messages::PD_SID;
@@ -32,7 +33,7 @@ const SVID: u16 = 0xFF01;
 
 fn identity() -> Message {
     let objects = IDENTITY_OBJECTS;
-    write(PD_SID, IDENTITY, ACK, &objects)
+    write(Edition::TwoZero, PD_SID, IDENTITY, ACK, &objects)
 }
 
 // Identity is answered, and SVIDs asked.
@@ -42,7 +43,13 @@ fn asking_svids() -> Owner {
 }
 
 pub fn print_bad_page() {
-    let page = write(PD_SID, SVIDS, ACK, &[0x00010000, 0x00020000]);
+    let page = write(
+        Edition::TwoZero,
+        PD_SID,
+        SVIDS,
+        ACK,
+        &[0x00010000, 0x00020000],
+    );
     let heard = hear(asking_svids(), page);
     print(with_refusal(with_message(case(10), page), heard.refusal));
 }
@@ -66,11 +73,17 @@ fn shown(number: u64, turn: Turn) -> Owner {
 }
 
 fn page() -> Message {
-    write(PD_SID, SVIDS, ACK, &[(SVID as u32) * 65536])
+    write(
+        Edition::TwoZero,
+        PD_SID,
+        SVIDS,
+        ACK,
+        &[(SVID as u32) * 65536],
+    )
 }
 
 fn modes() -> Message {
-    write(SVID, MODES, ACK, &[MODE])
+    write(Edition::TwoZero, SVID, MODES, ACK, &[MODE])
 }
 
 pub fn print_case_l() {

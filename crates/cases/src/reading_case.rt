@@ -22,7 +22,7 @@ fn with_head(line: Line, head: Head) -> Line {
 
 fn with_outcome(line: Line, outcome: ReadAs) -> Line {
     match outcome {
-        ReadAs::Message(head, _) => with_head(line, head),
+        ReadAs::Message(_, head, _) => with_head(line, head),
         ReadAs::Refused(refusal) => with_refusal(line, refusal),
     }
 }

@@ -1,4 +1,5 @@
 // A message as one end writes it for the other.
+use messages::Edition;
 use messages::Head;
 
 // The bytes of the longest message, and of an object.
@@ -20,7 +21,7 @@ pub fn nothing() -> Message {
 }
 
 // The message of a head that has no position, or nothing where it is refused.
-pub fn write(svid: u16, command: u8, kind: u8, objects: &[u32]) -> Message {
+pub fn write(edition: Edition, svid: u16, command: u8, kind: u8, objects: &[u32]) -> Message {
     let head = Head {
         svid,
         command,
@@ -28,7 +29,7 @@ pub fn write(svid: u16, command: u8, kind: u8, objects: &[u32]) -> Message {
         position: 0,
     };
     let mut bytes = [0u8; LONGEST];
-    if writing::write(head, objects, &mut bytes) != 0 {
+    if writing::write(edition, head, objects, &mut bytes) != 0 {
         return nothing();
     }
     Message {

@@ -1,16 +1,21 @@
 -- The three demands, as theorems about the definitions that the promises of the code cite. Every public function promises that its result is the
 -- one that its definition gives, for all arguments: it has no `requires`, and it finishes (docs/PROMISES.md).
-use mathlib.Core.Logic.{_↔_}
+use mathlib.Core.Logic.{_⊎_, _↔_}
 use mathlib.Core.Option.{some}
 use mathlib.Core.Path.{_≡_}
 use mathlib.Core.Bool.{true, false}
-use mathlib.Core.List.{List, [], _++_}
+use mathlib.Core.List.{List, [], _∷_, _++_}
 use Prim.Native.Nat.{ℕ, _+_, _*_, _/_, _^_, _<_, _≤_}
 use lib.ListN.{length, getD, take, replicate}
 use Rattle.laws.specs.Bounded.{Below}
-use Rattle.messages.specs.Layout.{reserved, req, Message, Representable, messageBytes, withOurVersion, withReservedClear, withReservedSet}
+use Rattle.messages.specs.Editions.{ours, lower}
+use Rattle.messages.specs.Layout.{reserved, req, nak, Message, Representable, messageBytes, withVersion, withReservedClear, withReservedSet}
 use Rattle.messages.specs.Reading.{headerIn, accepted, readOutcome}
+use Rattle.messages.specs.Requests.{attentionCommand, requestOf}
 use Rattle.messages.specs.Writing.{wellShaped, Written}
+use Rattle.messages.specs.declared.edition.Edition.{Edition}
+use Rattle.messages.specs.declared.request.Request.{Request}
+use Rattle.messages.proofs.Editions.{LowerOf, lower-of}
 use Rattle.messages.proofs.Laws.{write-read}
 use Rattle.messages.proofs.Reserved.{reserved-ignored, clear-and-set, set-as-clear}
 use Rattle.messages.proofs.RoundTrip.{read-bytes}
@@ -21,10 +26,11 @@ use Rattle.taking.specs.Words.{RepeatPage, BadPage}
 use Rattle.taking.specs.declared.Verdict.the-variants.{Bad, More, Ends}
 use Rattle.taking.proofs.Gathering.{take-more, take-last}
 use Rattle.taking.proofs.Words.{bad-exactly}
-use Rattle.dock.specs.Data.{listed, goodData, loaded}
-use Rattle.dock.specs.Dock.{Decision, refusedBy, stepOf, bufferOf}
+use Rattle.dock.specs.Data.{listed, goodData, freshDock, loaded}
+use Rattle.dock.specs.Dock.{Decision, refusedBy, stepOf, bufferOf, reply}
 use Rattle.dock.specs.Sound.{Sound}
 use Rattle.dock.specs.declared.Dock.{Dock}
+use Rattle.dock.specs.declared.Policy.{Policy}
 use Rattle.dock.specs.declared.Standing.the-variants.{Ready}
 use Rattle.dock.proofs.Laws.{refusal-leaves as Dock·refusal-leaves}
 use Rattle.dock.proofs.Laws.{dock-pages}
@@ -35,6 +41,7 @@ use Rattle.laptop.specs.declared.Candidate.the-variants.{Absent}
 use Rattle.laptop.specs.declared.Laptop.{Laptop}
 use Rattle.laptop.specs.declared.Wait.the-variants.{Nothing, Answer}
 use Rattle.laptop_laws.specs.Effects.{Call, effectOf, Kept, keptAfter}
+use Rattle.laptop_laws.specs.Editions.{identityOut, acknowledged, editionBy, requestEdition, SentAt, NoIdentityOut, NoneAcknowledged}
 use Rattle.laptop_laws.specs.Given.{ShortRun, AnyEntered, Given}
 use Rattle.laptop_laws.specs.Refusing.{RefusedAs}
 use Rattle.laptop_laws.specs.Reserved.{reservedClear, allReservedClear}
@@ -46,13 +53,22 @@ use Rattle.laptop_laws.proofs.Refusing.{refusal-state}
 use Rattle.laptop_laws.proofs.Reserved.{effect-same, kept-same}
 use Rattle.dock_laws.specs.Effects.{Call as Dock·Call}
 use Rattle.dock_laws.specs.Effects.{effectOf as Dock·effectOf}
-use Rattle.dock_laws.specs.Effects.{decision, dockAfter}
+use Rattle.dock_laws.specs.Effects.{message as Dock·message}
+use Rattle.dock_laws.specs.Effects.{policyAnswer, decision, dockAfter}
+use Rattle.dock_laws.specs.Editions.{editionBy as Dock·editionBy}
+use Rattle.dock_laws.specs.Editions.{editionAfter as Dock·editionAfter}
+use Rattle.dock_laws.specs.Editions.{SentAt as Dock·SentAt}
+use Rattle.dock_laws.specs.Editions.{request, newestIn}
 use Rattle.dock_laws.specs.Given.{Given as Dock·Given}
+use Rattle.dock_laws.specs.Given.{HasToSend}
 use Rattle.dock_laws.specs.Reserved.{reservedClear as Dock·reservedClear}
 use Rattle.dock_laws.specs.Reserved.{allReservedClear as Dock·allReservedClear}
+use Rattle.dock_laws.proofs.Editions.{edition-after, edition-newest}
 use Rattle.dock_laws.proofs.Given.{given-exactly as Dock·given-exactly}
 use Rattle.dock_laws.proofs.Reserved.{effect-same as Dock·effect-same}
 use Rattle.dock_laws.proofs.Reserved.{dock-same}
+use Rattle.dock_laws.proofs.SentAt.{sent-at as Dock·sent-at}
+use Rattle.dock_laws.proofs.SentAt.{answered-at, nak-at}
 use Rattle.catalogue.specs.Bytes.{catalogueBytes, HeldCatalogue, holding, heldCatalogue, CatalogueWritten}
 use Rattle.catalogue.specs.declared.Bytes.{Bytes}
 use Rattle.catalogue.proofs.Laws.{refused-leaves}
@@ -90,7 +106,8 @@ use Rattle.port_laws.specs.Effects.{next as Port·next}
 use Rattle.port_laws.specs.Effects.{effectOf as Port·effectOf}
 use Rattle.port_laws.specs.Effects.{Kept as Port·Kept}
 use Rattle.port_laws.specs.Effects.{keptAfter as Port·keptAfter}
-use Rattle.port_laws.specs.Effects.{isOwners, ofSide, effectIn, keptBy}
+use Rattle.port_laws.specs.Effects.{isOwners, ofSide, effectSeen, effectIn, keptBy}
+use Rattle.port_laws.specs.Editions.{saidOn, saidOverOn}
 use Rattle.port_laws.specs.Given.{Given as Port·Given}
 use Rattle.port_laws.specs.Leaving.{isOthersCall, isBlocked, isLeftOut, leaving, withoutOthers, NoneRefusedSeven}
 use Rattle.port_laws.specs.Refusing.{RefusedAs as Port·RefusedAs}
@@ -99,6 +116,7 @@ use Rattle.port_laws.specs.Reserved.{reservedClear as Port·reservedClear}
 use Rattle.port_laws.specs.Reserved.{allReservedClear as Port·allReservedClear}
 use Rattle.port_laws.specs.WellFormed.{WellFormedOn}
 use Rattle.port_laws.proofs.Cases.{cases-hold as Port·cases-hold}
+use Rattle.port_laws.proofs.Editions.{edition-on, sent-on, sent-since-acknowledged, since-identity}
 use Rattle.port_laws.proofs.Given.{given-exactly as Port·given-exactly}
 use Rattle.port_laws.proofs.Given.{seven-exactly, thirteen-by-own}
 use Rattle.port_laws.proofs.Isolation.{ShareIs, share-is-a-laptops, SameShare, isolated, isolated-as-02}
@@ -121,6 +139,7 @@ use Rattle.links.proofs.OnSides.{begins-on, whole-on, exchanges-shared, old-or-
 use Rattle.links.proofs.Shares.{away-changes-nothing, near-is-01s}
 use Rattle.links.proofs.ToRest.{no-dead-end-on}
 use Rattle.link.specs.Cases.{cases, caseL, given, said}
+use Rattle.link.specs.Editions.{editionCases}
 use Rattle.link.specs.Demand.{Meets, AtRest, Begins, whole, Holds, apart, OldOrWhole, Lowers, Replaces, Counts, Completes, Raises, EndsBy, NeverBad, RequestTaken}
 use Rattle.link.specs.Exchanges.{HasAll, exchange, times, LossFree, NoDeadEnd, NextAsks}
 use Rattle.link.specs.Freedoms.{runs}
@@ -129,7 +148,7 @@ use Rattle.link.specs.Joined.{System, Event, calls}
 use Rattle.link.specs.Link.{step, run}
 use Rattle.link.specs.Needed.{needed, received, inAll, onWay}
 use Rattle.link.specs.Permits.{Permits}
-use Rattle.link.proofs.Cases.{cases-hold}
+use Rattle.link.proofs.Cases.{cases-hold, editions-hold}
 use Rattle.link.proofs.Freedoms.{runs-hold}
 use Rattle.unharmed.proofs.Permitted.{permits}
 use Rattle.unharmed.proofs.Premises.{loaded-meets, loaded-has-all, rests-after}
@@ -191,13 +210,13 @@ pub catalogue-refusal-leaves : (held : HeldCatalogue) (words : ℕ) (out : List 
     CatalogueWritten held words out result after → (result .refusal ≡ 0 → ⊥) → (result .length ≡ 0) × (after ≡ out)
 catalogue-refusal-leaves = refused-leaves
 
--- DEMAND 2. Reading what was written gives it again,
-pub read-what-was-written : (m : Message) → Representable m → wellShaped m ≡ true → readOutcome (messageBytes m) ≡ accepted m
+-- DEMAND 2. Reading what was written at an edition gives it again, with that edition (02, R-5),
+pub read-what-was-written : (at : Edition) (m : Message) → Representable m → wellShaped m ≡ true → readOutcome (messageBytes at m) ≡ accepted at m
 read-what-was-written = read-bytes
 
--- writing what was read gives the same bytes with our version in the header and bit 5 cleared (02, R-2),
-pub write-what-was-read : (b : List ℕ) → Below 256 b → (m : Message) → readOutcome b ≡ accepted m → (out : List ℕ) → length out ≡ length b →
-    Written m out 0 (withOurVersion (withReservedClear b))
+-- writing what was read at its own edition gives the same bytes with bit 5 cleared (02, R-2) and the version bits in that edition's form (02, R-5),
+pub write-what-was-read : (b : List ℕ) → Below 256 b → (at : Edition) (m : Message) → readOutcome b ≡ accepted at m → (out : List ℕ) → length out ≡ length b →
+    Written at m out 0 (withVersion at (withReservedClear b))
 write-what-was-read = write-read
 
 -- a dock's n / 12 + 1 pages, read off in order, are its list,
@@ -343,8 +362,8 @@ pub a-side-is-a-laptop : (side : Side) (history : List (Port·Call × List ℕ))
 a-side-is-a-laptop = share-is-a-laptops
 
 -- An answer from the side that is not awaited is 6: it drops that side's open list if it is an SVIDs ACK, and else leaves the state alone.
-pub six-from-the-side-not-awaited : (side : Side) (p : Port) (m : Memory) (bytes out : List ℕ) (x : Message) → isOthers side (p .wait) ≡ true →
-    (ShortRun m → ⊥) → readOutcome bytes ≡ accepted x → (x .head .kind ≡ req → ⊥) →
+pub six-from-the-side-not-awaited : (side : Side) (p : Port) (m : Memory) (bytes out : List ℕ) (at : Edition) (x : Message) → isOthers side (p .wait) ≡ true →
+    (ShortRun m → ⊥) → readOutcome bytes ≡ accepted at x → (x .head .kind ≡ req → ⊥) →
     Port·effectOf (Port·message side bytes) p m out .step ≡ steppedOn side p (Laptop·refusedBy 6 (leftByUnawaited (x .head) (seen side p)))
 six-from-the-side-not-awaited = six-from-the-other-side
 
@@ -361,7 +380,73 @@ every-history-of-both-sides = Port·cases-hold
 pub each-side-stays-well-formed : (c : Port·Call) (out : List ℕ) (k : Port·Kept) → WellFormedOn k → WellFormedOn (keptBy c out k)
 each-side-stays-well-formed = Port·keeps
 
--- DEMAND 3. It begins when, of a laptop and a dock at rest, a call sends Discover Identity.
+-- FIRST AND LATER EDITIONS (02, R-5). The choice, over all nine pairs: one of the two editions, and above neither.
+pub choice-is-the-lower : (a b : Edition) → LowerOf a b (lower a b)
+choice-is-the-lower = lower-of
+
+-- The dock: after any calls its edition is the lower of the newest good request's and ours, or as it began where there was none; no other call changes it.
+pub dock-edition-after-any-calls : (history : List (Dock·Call × List ℕ)) (d : Dock) → dockAfter history d .edition ≡ Dock·editionBy (newestIn history d) (d .edition)
+dock-edition-after-any-calls = edition-newest
+
+pub dock-edition-after-every-call : (c : Dock·Call) (d : Dock) (out : List ℕ) → Dock·effectOf c d out .dock .edition ≡ Dock·editionAfter c d out
+dock-edition-after-every-call = edition-after
+
+-- Whatever it sends, ACK, NAK or BUSY, has that edition, in its bytes;
+pub dock-sends-at-its-edition : (c : Dock·Call) (d : Dock) (out : List ℕ) → 0 < Dock·effectOf c d out .length →
+    (m : Message) × Dock·SentAt c d out (Dock·effectOf c d out .dock .edition) m
+dock-sends-at-its-edition = Dock·sent-at
+
+-- so policy's answer goes out at the lower of the edition of the request that it answers and ours,
+pub answers-at-the-requests-edition : (history : List (Dock·Call × List ℕ)) (policy : Policy) (r : Request) (objects out : List ℕ) (m : Message) →
+    HasToSend (dockAfter history freshDock) policy r objects m →
+    Dock·effectOf (policyAnswer policy r objects) (dockAfter history freshDock) out .refusal ≡ 0 →
+    (e : Edition) × (q : Message) × (newestIn history freshDock ≡ request e q) × (requestOf (q .head) ≡ r) ×
+    Dock·SentAt (policyAnswer policy r objects) (dockAfter history freshDock) out (lower e ours) m
+answers-at-the-requests-edition = answered-at
+
+-- and so does the NAK to commands 0 and 7..31.
+pub naks-at-the-requests-edition : (d : Dock) (bytes out : List ℕ) (e : Edition) (m : Message) → readOutcome bytes ≡ accepted e m → m .head .kind ≡ req →
+    (m .head .command ≡ 0) ⊎ (attentionCommand < m .head .command) → 4 ≤ length out →
+    Dock·SentAt (Dock·message bytes) d out (lower e ours) (reply (requestOf (m .head)) nak [])
+naks-at-the-requests-edition = nak-at
+
+-- The laptop, each side: what every call says of the side's edition is all that sets it. Identity that goes out: ours; the Identity ACK that is taken: the lower
+-- of its edition and ours; every other event, of this side or of the other: nothing.
+pub side-edition-after-every-call : (side : Side) (c : Port·Call) (out : List ℕ) (k : Port·Kept) →
+    seen side (keptBy c out k .port) .edition ≡ editionBy (saidOn side c out k) (seen side (k .port) .edition)
+side-edition-after-every-call = edition-on
+
+-- Whatever is sent on a side has, in its bytes, our edition if it is Identity, and else that of the side.
+pub side-sends-at-its-edition : (side : Side) (c : Port·Call) (out : List ℕ) (k : Port·Kept) → effectIn c out k .step .side ≡ side →
+    0 < effectIn c out k .step .length → (r : Request) × SentAt (requestEdition r (seen side (k .port) .edition)) r (effectSeen side (effectIn c out k))
+side-sends-at-its-edition = sent-on
+
+-- So over any history of both sides: between an Identity ACK that a side takes and its next Identity, what goes out on that side is at the lower of that ACK's
+-- edition and ours, and between an Identity and its ACK at ours; Identity always at ours.
+module _ (side : Side) (before between : List (Port·Call × List ℕ)) (c : Port·Call × List ℕ) (start : Port·Kept) where
+  abbrev then : Port·Kept
+  then = Port·keptAfter before start
+
+  abbrev since : Port·Kept
+  since = keptBy (c .0) (c .1) then
+
+  abbrev at-last : Port·Kept
+  at-last = Port·keptAfter (before ++ c ∷ between) start
+
+  pub sent-between-ack-and-identity : (at : Edition) → saidOn side (c .0) (c .1) then ≡ acknowledged at → NoIdentityOut (saidOverOn side between since) →
+      (e : Port·Call) (out : List ℕ) → effectIn e out at-last .step .side ≡ side → 0 < effectIn e out at-last .step .length →
+      (r : Request) × SentAt (requestEdition r (lower at ours)) r (effectSeen side (effectIn e out at-last))
+  sent-between-ack-and-identity = sent-since-acknowledged side before between c start
+
+  pub ours-between-identity-and-ack : saidOn side (c .0) (c .1) then ≡ identityOut → NoneAcknowledged (saidOverOn side between since) →
+      seen side (at-last .port) .edition ≡ ours
+  ours-between-identity-and-ack = since-identity side before between c start
+
+-- 02's corners, run on the definitions: the sixteen forms of the version bits, and the headers that each end sends.
+pub every-edition-case : given editionCases ≡ said editionCases
+every-edition-case = editions-hold
+
+-- DEMAND 3, for a dock of any highest edition (`highest` of `System`). It begins when, of a laptop and a dock at rest, a call sends Discover Identity.
 pub begins : (modesOf : ℕ → List ℕ) (s : System) → AtRest s → (out : List ℕ) (c : Call) →
     step modesOf (calls c out) s .laptop .wait ≡ Answer identityRequest → Begins (step modesOf (calls c out) s)
 begins = begins-with
@@ -372,19 +457,19 @@ pub well-formed-after-every-call : (c : Call) (l : Laptop) (m : Memory) (out : L
     WellFormed (effectOf c l m out .step .laptop) (effectOf c l m out .after)
 well-formed-after-every-call = keeps
 
-pub at-rest-after-any-calls : (history : List (Call × List ℕ)) (m : Memory) (d : Dock) → Lent m → m .entered ≡ replicate 72 0 → d .standing ≡ Ready →
+pub at-rest-after-any-calls : (history : List (Call × List ℕ)) (m : Memory) (highest : Edition) (d : Dock) → Lent m → m .entered ≡ replicate 72 0 → d .standing ≡ Ready →
     keptAfter history (record { laptop = freshLaptop; memory = m }) .laptop .wait ≡ Nothing →
-    AtRest (apart (keptAfter history (record { laptop = freshLaptop; memory = m })) d)
+    AtRest (apart (keptAfter history (record { laptop = freshLaptop; memory = m })) highest d)
 at-rest-after-any-calls = rests-after
 
 -- A dock that was loaded has data that meets 01, and all that is asked where each SVID has 1 to 6 modes.
-pub meets-when-loaded : (modesOf : ℕ → List ℕ) (identity svids : List ℕ) → goodData identity svids ≡ true → Below (2 ^ 16) svids → Below (2 ^ 32) identity →
-    ((svid : ℕ) → Below (2 ^ 32) (modesOf svid)) → Meets modesOf (loaded identity svids)
+pub meets-when-loaded : (modesOf : ℕ → List ℕ) (at : Edition) (identity svids : List ℕ) → goodData identity svids ≡ true → Below (2 ^ 16) svids → Below (2 ^ 32) identity →
+    ((svid : ℕ) → Below (2 ^ 32) (modesOf svid)) → Meets modesOf (loaded at identity svids)
 meets-when-loaded = loaded-meets
 
-pub all-there-when-loaded : (modesOf : ℕ → List ℕ) (identity svids : List ℕ) → goodData identity svids ≡ true →
+pub all-there-when-loaded : (modesOf : ℕ → List ℕ) (at : Edition) (identity svids : List ℕ) → goodData identity svids ≡ true →
     ((i : ℕ) → i < length svids → 1 ≤ length (modesOf (getD svids i 0))) → ((i : ℕ) → i < length svids → length (modesOf (getD svids i 0)) ≤ 6) →
-    HasAll modesOf (loaded identity svids)
+    HasAll modesOf (loaded at identity svids)
 all-there-when-loaded = loaded-has-all
 
 -- Bit 5 of what is on its way may be set, in every state: the dock's answer, and the request.

@@ -14,6 +14,9 @@ use Rattle.messages.proofs.Reserved.{read-never-4, write-never-4}
 use Rattle.pages.specs.Lists.{mostSvids}
 use Rattle.taking.specs.declared.Verdict.{Verdict}
 use Rattle.taking.specs.declared.Verdict.the-variants.{Bad, Repeat, More, Ends}
+use Rattle.messages.specs.declared.edition.Named.the-variants.{Nothing as Named·Nothing}
+use Rattle.messages.specs.declared.edition.Named.the-variants.{Edition as Named·Edition}
+use Rattle.dock.specs.Data.{withEdition}
 use Rattle.dock.specs.Dock.{reply, sending}
 use Rattle.dock.specs.Dock.{sends as Dock·sends}
 use Rattle.dock.specs.Dock.{stepOf as Dock·stepOf}
@@ -40,11 +43,11 @@ use Rattle.rebuilding.specs.Rebuilding.{readAs}
 use Rattle.rebuilding.proofs.Laws.{only-these as Reading·only-these}
 use Rattle.stretches.specs.Stretches.{stretchIn}
 use Rattle.stretches.proofs.Laws.{only-these as Stretch·only-these}
-use Rattle.demands.specs.Numbers.{AnyCall, reads, writes, ofDock, ofLaptop, ofPort, writesCatalogue, tellsFault, judges, readsCatalogue, findsStretch, sendsAnswer, refusesOwner, asksFor, hearsIdentity, hearsSvids, hearsModes, hearsMode, numberGiven}
+use Rattle.demands.specs.Numbers.{AnyCall, reads, writes, writesNumbered, ofDock, ofLaptop, ofPort, writesCatalogue, tellsFault, judges, readsCatalogue, findsStretch, sendsAnswer, refusesOwner, asksFor, hearsIdentity, hearsSvids, hearsModes, hearsMode, numberGiven}
 
 read-not-4 : (o : Outcome) → (o ≡ refused 4 → ⊥) → readNumber (shown o .outcome) ≡ 4 → ⊥
 unfolding shown
-read-not-4 (accepted m) none e = omega arith
+read-not-4 (accepted at m) none e = omega arith
 read-not-4 (refused number) none e = none (ap refused e)
 
 found-not-4 : (found : Found) → foundNumber found ≡ 4 → ⊥
@@ -117,6 +120,8 @@ pub never-four : (c : AnyCall) → numberGiven c ≡ 4 → ⊥
 unfolding numberGiven
 never-four (reads bytes) = read-not-4 (readOutcome bytes) (read-never-4 bytes)
 never-four (writes m out) = write-never-4 m (length out)
+never-four (writesNumbered Named·Nothing m out) = λ e. omega arith
+never-four (writesNumbered (Named·Edition at) m out) = write-never-4 m (length out)
 never-four (ofDock c d out) = Dock·never-four c d out
 never-four (ofLaptop c l m out) = Laptop·never-four c l m out
 never-four (ofPort c p m out) = Port·never-four c p m out
@@ -125,10 +130,10 @@ never-four (tellsFault found) = found-not-4 found
 never-four (judges bytes) = file-not-4 (judgementOf bytes .refusal) (only-these bytes)
 never-four (readsCatalogue bytes words) = beside-not-4 (readAs words (judgementOf bytes) .refusal) 11 (Reading·only-these bytes words) (λ z. omega arith)
 never-four (findsStretch bytes svid) = beside-not-4 (stretchIn (judgementOf bytes) svid .refusal) 12 (Stretch·only-these bytes svid) (λ z. omega arith)
-never-four (sendsAnswer r kind objects isPage d out) = answer-not-4 (reply r kind objects) d (sending isPage d) (length out)
+never-four (sendsAnswer at r kind objects isPage d out) = answer-not-4 (reply r kind objects) d (sending isPage (withEdition at d)) (length out)
 never-four (refusesOwner l run heldRun) = owner-not-4 l run heldRun
 never-four (asksFor r l out) = request-not-4 (requestMessage r) l (awaiting r l) (length out)
-never-four (hearsIdentity l kind n objects svids identity) = λ e. omega (arith, e, identity-number l kind n objects svids identity)
+never-four (hearsIdentity l at kind n objects svids identity) = λ e. omega (arith, e, identity-number l at kind n objects svids identity)
 never-four (hearsSvids l kind values svids) = svids-not-4 l kind values svids (page-not-4 (counted l) svids values)
 never-four (hearsModes l kind words modes run) = modes-not-4 l kind words modes run
 never-four (hearsMode l kind r heldSvids entered) = λ e. omega (arith, e, mode-number l kind r heldSvids entered)

@@ -8,9 +8,16 @@ use lib.ListN.{getD, take}
 use denote.Ref.{RefT, now}
 use Rattle.laws.specs.Lent.{Lent, left, leaving}
 use Rattle.laws.proofs.Tight.{one-value}
-use Rattle.messages.specs.Layout.{bytesOfObject}
+use Rattle.messages.specs.Editions.{editionNumber, editionNamed, lower}
+use Rattle.messages.specs.Layout.{Message, bytesOfObject}
 use Rattle.messages.specs.Reading.{readNumber}
 use Rattle.messages.specs.Requests.{requestOf, headFor, sameRequest}
+use Rattle.messages.specs.Writing.{WrittenBy}
+use Rattle.messages.specs.declared.edition.Edition.{Edition}
+use Rattle.messages.specs.declared.edition.Named.{Named}
+use Rattle.messages.specs.declared.edition.Named.the-variants.{Nothing}
+use Rattle.messages.specs.declared.edition.Named.the-variants.{Edition as Named·Edition}
+use Rattle.messages.proofs.Laws.{write-only}
 use Rattle.messages.specs.Table.{shape}
 use Rattle.messages.specs.declared.Head.{Head}
 use Rattle.messages.specs.declared.ReadAs.{ReadAs}
@@ -44,6 +51,21 @@ same-request-only a b = λ result other. one-value
 
 pub head-for-only : (r : Request) (kind : ℕ) → One (λ (h : Head). h ≡ headFor r kind)
 head-for-only r kind = λ result other. one-value
+
+pub lower-only : (a b : Edition) → One (λ (e : Edition). e ≡ lower a b)
+lower-only a b = λ result other. one-value
+
+pub edition-number-only : (e : Edition) → One (λ (number : ℕ). number ≡ editionNumber e)
+edition-number-only e = λ result other. one-value
+
+pub edition-named-only : (number : ℕ) → One (λ (named : Named). named ≡ editionNamed number)
+edition-named-only number = λ result other. one-value
+
+-- at the edition that a number names, or 5
+pub numbered-only : (named : Named) (m : Message) (out : List ℕ) (number number′ : ℕ) (after after′ : List ℕ) → WrittenBy named m out number after →
+    WrittenBy named m out number′ after′ → (number ≡ number′) × (after ≡ after′)
+numbered-only Nothing m out number number′ after after′ w w′ = (one-value (w .0) (w′ .0), one-value (w .1) (w′ .1))
+numbered-only (Named·Edition e) m out number number′ after after′ w w′ = write-only e m out number number′ after after′ w w′
 
 pub bytes-of-only : (object : ℕ) → One (λ (bytes : List ℕ). bytes ≡ bytesOfObject object)
 bytes-of-only object = λ result other. one-value

@@ -110,7 +110,7 @@ fn answer_all() -> Finish {
 fn main() {
     io::write_all(
         STDOUT_FILENO,
-        b"event refusal length buffer standing page count\n",
+        b"event refusal length buffer standing page count edition\n",
     );
     print_finish(answer_all(), b" events\n");
 }

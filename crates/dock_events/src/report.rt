@@ -3,17 +3,19 @@
 use dock::Dock;
 use dock::Standing;
 use dock::Step;
+use messages::edition_number;
 use text::line::append;
 use text::line::append_decimal;
+use text::line::append_edition;
 use text::line::append_field;
 use text::line::append_nothing;
 use text::line::append_spaced_bytes;
 use text::line::end_line;
 
 // The longest line: a number of seven digits, a refusal and a length of three digits, 255 bytes of
-// two digits each, "sending", a page and a count of three digits, a space before each but the
-// first, and the line end.
-const LONGEST: usize = 543;
+// two digits each, "sending", a page and a count of three digits, an edition, a space before each
+// but the first, and the line end.
+const LONGEST: usize = 547;
 
 fn append_output(line: &mut [u8], at: usize, output: &[u8]) -> usize {
     if output.len() == 0 {
@@ -40,7 +42,9 @@ fn append_dock(line: &mut [u8], at: usize, dock: Dock) -> usize {
     let standing = dock.standing;
     let at = append_standing(line, at, standing);
     let at = append_field(line, at, dock.page);
-    append_field(line, at, dock.count)
+    let at = append_field(line, at, dock.count);
+    let edition = dock.edition;
+    append_edition(line, at, edition_number(edition))
 }
 
 pub fn print_event(number: u64, step: Step, output: &[u8]) {

@@ -1,7 +1,10 @@
 // A line of output as one value: each function hands on the line with its own text behind.
+use messages::Edition;
+use messages::edition_number;
 use text::line::append;
 use text::line::append_bytes;
 use text::line::append_decimal;
+use text::line::append_edition;
 use text::line::append_half;
 use text::line::append_word;
 use text::line::print_line;
@@ -42,6 +45,13 @@ pub fn with_half(line: Line, half: u16) -> Line {
 pub fn with_word(line: Line, word: u32) -> Line {
     let mut bytes = line.bytes;
     let length = append_word(&mut bytes, line.length, word);
+    Line { bytes, length }
+}
+
+// The edition has a space before it.
+pub fn with_edition(line: Line, edition: Edition) -> Line {
+    let mut bytes = line.bytes;
+    let length = append_edition(&mut bytes, line.length, edition_number(edition));
     Line { bytes, length }
 }
 

@@ -56,7 +56,11 @@ fn answer_all() -> Finish {
 fn main() {
     io::write_all(
         STDOUT_FILENO,
-        b"stream event side refusal sent output told awaited candidate pages held candidate_run held_run catalogue report other_candidate other_pages other_held\n",
+        b"stream event side refusal sent output told awaited candidate pages held edition",
+    );
+    io::write_all(
+        STDOUT_FILENO,
+        b" candidate_run held_run catalogue report other_candidate other_pages other_held other_edition\n",
     );
     print_finish(answer_all(), b" events\n");
 }

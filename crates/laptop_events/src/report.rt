@@ -19,6 +19,7 @@ use driving::fields::with_side;
 use driving::line::Line;
 use driving::line::print;
 use driving::line::with_bytes;
+use driving::line::with_edition;
 use driving::line::with_half;
 use driving::line::with_text;
 use driving::line::with_word;
@@ -80,8 +81,10 @@ fn with_step(line: Line, answer: Answer) -> Line {
 
 fn with_laptop(line: Line, laptop: Laptop) -> Line {
     let held = laptop.held;
+    let edition = laptop.edition;
     let line = with_candidate(line, laptop);
-    with_held(with_number(line, laptop.pages as u64), held)
+    let line = with_held(with_number(line, laptop.pages as u64), held);
+    with_edition(line, edition)
 }
 
 fn with_runs(line: Line, memory: Memory) -> Line {

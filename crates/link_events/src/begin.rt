@@ -12,9 +12,10 @@ use linking::far_end::Modes;
 use linking::far_end::end_of;
 use linking::start::Start;
 use linking::start::first_end;
+use messages::OURS;
 use port::Side;
 
-// The other dock's data: three identity objects, an SVID and its mode.
+// The other dock's data: three identity objects, an SVID and its mode. Its highest edition is ours.
 const OLD_SVID: u16 = 0x1234;
 
 const OLD_MODE: u32 = 0x55;
@@ -46,7 +47,7 @@ fn gather_old(owner: Owner, side: Side) -> Owner {
     };
     let mut state = State {
         owner,
-        far_end: end_of(old_dock(), modes),
+        far_end: end_of(old_dock(), OURS, modes),
     };
     let mut number = 0;
     while number < EVENTS {

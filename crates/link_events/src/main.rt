@@ -83,7 +83,11 @@ fn print_last(finish: Finish) {
 fn main() {
     io::write_all(
         STDOUT_FILENO,
-        b"stream event side permitted refusal pages candidate held catalogue page lost other_pages other_candidate other_held\n",
+        b"stream event side permitted refusal pages candidate held catalogue page lost",
+    );
+    io::write_all(
+        STDOUT_FILENO,
+        b" edition dock_edition other_pages other_candidate other_held other_edition\n",
     );
     print_last(answer_all());
 }

@@ -12,6 +12,7 @@ use driving::fields::with_number;
 use driving::fields::with_side;
 use driving::line::Line;
 use driving::line::print;
+use driving::line::with_edition;
 use driving::line::with_text;
 use driving::owning::Owner;
 use driving::owning::other;
@@ -60,6 +61,14 @@ fn with_far_end(line: Line, far_end: FarEnd) -> Line {
     with_number(line, far_end.lost)
 }
 
+// The editions of a side's laptop and of its dock.
+fn with_editions(line: Line, laptop: Laptop, far_end: FarEnd) -> Line {
+    let edition = laptop.edition;
+    let dock = far_end.dock;
+    let dock_edition = dock.edition;
+    with_edition(with_edition(line, edition), dock_edition)
+}
+
 fn with_event(line: Line, far_end: FarEnd) -> Line {
     let refusal = far_end.refusal;
     with_refusal(with_permitted(line, far_end.is_permitted), refusal)
@@ -71,7 +80,10 @@ pub fn print_event(stream: u64, number: u64, ends: Ends) {
     let owner = ends.owner;
     let port = owner.port;
     let line = with_event(with_side(place(stream, number), side), far_end);
-    let line = with_catalogue(with_laptop(line, seen(side, port)), owner, side);
-    let line = with_far_end(line, far_end);
-    print(with_laptop(line, seen(other(side), port)));
+    let laptop = seen(side, port);
+    let other_laptop = seen(other(side), port);
+    let other_edition = other_laptop.edition;
+    let line = with_catalogue(with_laptop(line, laptop), owner, side);
+    let line = with_editions(with_far_end(line, far_end), laptop, far_end);
+    print(with_edition(with_laptop(line, other_laptop), other_edition));
 }

@@ -6,12 +6,14 @@ use crate::link::REQUEST;
 use crate::link::quiet;
 use crate::link::with_request;
 use messages::IDENTITY;
+use messages::OURS;
 use messages::PD_SID;
 use messages::REQ;
 use messages::Request;
 use messages::SVIDS;
 use messages::head_for;
 
+// At our edition.
 fn request_for(command: u8) -> [u8; REQUEST] {
     let request = Request {
         svid: PD_SID,
@@ -19,7 +21,7 @@ fn request_for(command: u8) -> [u8; REQUEST] {
         position: 0,
     };
     let mut bytes = [0u8; REQUEST];
-    writing::write(head_for(request, REQ), &[0u32; 0], &mut bytes);
+    writing::write(OURS, head_for(request, REQ), &[0u32; 0], &mut bytes);
     bytes
 }
 

@@ -5,8 +5,8 @@ use crate::far_end::Modes;
 use crate::far_end::Refusal;
 use crate::far_end::counted;
 use crate::far_end::permitted;
+use crate::highest::lowered;
 use crate::link::ANSWER;
-use crate::link::REQUEST;
 use crate::link::link_after;
 use crate::link::loses_confirmation;
 use crate::link::with_answer;
@@ -41,11 +41,16 @@ fn with_dock(far_end: FarEnd, step: Step) -> FarEnd {
 }
 
 // A request reaches the dock, or the dock hears of its answer.
-fn heard(dock: Dock, request: [u8; REQUEST], event: Event) -> Step {
+fn heard(far_end: FarEnd, event: Event) -> Step {
+    let dock = far_end.dock;
     match event {
         Event::Sent => confirming::sent(dock),
         Event::Failed => confirming::failed(dock),
         _ => {
+            let link = far_end.link;
+            let sent = link.request;
+            let highest = far_end.highest;
+            let request = lowered(sent, highest);
             let mut nothing = [0u8; 0];
             receiving::message(dock, &request, &mut nothing)
         }
@@ -54,8 +59,7 @@ fn heard(dock: Dock, request: [u8; REQUEST], event: Event) -> Step {
 
 fn hear(far_end: FarEnd, event: Event) -> FarEnd {
     let link = far_end.link;
-    let request = link.request;
-    let step = heard(far_end.dock, request, event);
+    let step = heard(far_end, event);
     let after = FarEnd {
         link: link_after(link, event),
         lost: counted(far_end.lost, loses_confirmation(link, event)),

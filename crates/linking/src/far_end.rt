@@ -3,6 +3,7 @@ use crate::link::Link;
 use crate::link::quiet;
 use dock::Dock;
 use laptop::RUN_WORDS;
+use messages::Edition;
 
 // The modes of the dock's SVIDs: how many each has, and six words for each.
 pub struct Modes {
@@ -16,9 +17,10 @@ pub enum Refusal {
     Number(u8),
 }
 
-// The dock and the link to it. `lost` counts the confirmations lost in this gathering. The last two fields are of the last event.
+// The dock with its highest edition, and the link to it. `lost` counts the confirmations lost in this gathering. The last two fields are of the last event.
 pub struct FarEnd {
     pub dock: Dock,
+    pub highest: Edition,
     pub modes: Modes,
     pub link: Link,
     pub lost: u64,
@@ -27,9 +29,10 @@ pub struct FarEnd {
 }
 
 // With a quiet link.
-pub fn end_of(dock: Dock, modes: Modes) -> FarEnd {
+pub fn end_of(dock: Dock, highest: Edition, modes: Modes) -> FarEnd {
     FarEnd {
         dock,
+        highest,
         modes,
         link: quiet(),
         lost: 0,

@@ -2,6 +2,7 @@
 mod ahead;
 pub mod at_dock;
 pub mod far_end;
+mod highest;
 pub mod link;
 pub mod start;
 

@@ -1,4 +1,4 @@
-// What a far end begins with: the dock's data, its first page, and whether the laptop end holds an old catalogue.
+// What a far end begins with: the dock's data, its first page, whether the laptop end holds an old catalogue, and the dock's highest edition.
 use crate::ahead::advanced;
 use crate::far_end::FarEnd;
 use crate::far_end::Modes;
@@ -7,6 +7,10 @@ use dock::Dock;
 use dock::Step;
 use laptop::MODES_EACH;
 use laptop::RUN_WORDS;
+use messages::Edition;
+use messages::Named;
+use messages::OURS;
+use messages::edition_named;
 use messages::first_objects;
 use pages::first_svids;
 use streams::input::Byte;
@@ -26,6 +30,7 @@ pub struct Start {
     modes: Modes,
     page: u8,
     pub holds_old: bool,
+    highest: Edition,
 }
 
 // A number that was read with what it counts, or one that is cut or past its limit.
@@ -129,7 +134,22 @@ fn read_dock() -> Step {
     )
 }
 
-fn is_good(refusal: u8, has_modes: bool, is_whole: bool, holds_old: u8) -> bool {
+fn names_edition(number: u8) -> bool {
+    match edition_named(number) {
+        Named::Edition(_) => true,
+        Named::Nothing => false,
+    }
+}
+
+// The edition that the number names, or ours where it names none.
+fn edition_of(number: u8) -> Edition {
+    match edition_named(number) {
+        Named::Edition(edition) => edition,
+        Named::Nothing => OURS,
+    }
+}
+
+fn is_good(refusal: u8, has_modes: bool, is_whole: bool, last: &[u8; 3]) -> bool {
     if refusal != 0 {
         return false;
     }
@@ -139,29 +159,34 @@ fn is_good(refusal: u8, has_modes: bool, is_whole: bool, holds_old: u8) -> bool 
     if !is_whole {
         return false;
     }
-    holds_old <= 1
+    if 1 < last[1] {
+        return false;
+    }
+    names_edition(last[2])
 }
 
-// Behind the dock's data stand its modes, its page, and 0 or 1 for what the laptop end holds.
+// Behind the dock's data stand its modes, its page, 0 or 1 for what the laptop end holds, and the number of its highest edition.
 pub fn read_start() -> Start {
     let step = read_dock();
     let dock = step.dock;
     let mut counts = [0u8; 72];
     let mut words = [0u32; RUN_WORDS];
-    let mut last = [0u8; 2];
+    let mut last = [0u8; 3];
     let has_modes = read_modes(length_of(dock.count), &mut counts, &mut words);
     let is_whole = fill(&mut last);
     Start {
-        is_good: is_good(step.refusal, has_modes, is_whole, last[1]),
+        is_good: is_good(step.refusal, has_modes, is_whole, &last),
         dock,
         modes: Modes { counts, words },
         page: last[0],
         holds_old: last[1] == 1,
+        highest: edition_of(last[2]),
     }
 }
 
 pub fn first_end(start: Start) -> FarEnd {
     let modes = start.modes;
-    let ahead = advanced(end_of(start.dock, modes), start.page);
-    end_of(ahead.dock, modes)
+    let highest = start.highest;
+    let ahead = advanced(end_of(start.dock, highest, modes), start.page);
+    end_of(ahead.dock, highest, modes)
 }

@@ -88,6 +88,13 @@ pub fn append_field(line: &mut [u8], at: usize, number: u8) -> usize {
     append_decimal(line, at, number as u64)
 }
 
+// An edition by its number, with a space before it: 21 stands as 2.1.
+pub fn append_edition(line: &mut [u8], at: usize, number: u8) -> usize {
+    let at = append_field(line, at, number / 10);
+    let at = put(line, at, b'.');
+    append_decimal(line, at, (number % 10) as u64)
+}
+
 // The library's `io::hex` has lower case digits.
 fn digit(value: u8) -> u8 {
     let low = value % 16;

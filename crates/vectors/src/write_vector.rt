@@ -1,4 +1,4 @@
-// A write vector: a header, the room for the output, the number of objects, then the objects.
+// A write vector: what a header says, the number of an edition, the room for the output, the number of objects, then the objects.
 use crate::LONGEST;
 use crate::begin_line;
 use messages::Head;
@@ -12,12 +12,14 @@ use text::line::append_decimal;
 use text::line::append_spaced_bytes;
 use text::line::end_line;
 
-// The length of the part before the objects, and where its last two bytes stand.
-const FIXED: usize = 7;
+// The length of the part before the objects, and where its last three bytes stand.
+const FIXED: usize = 8;
 
-const ROOM: usize = 5;
+const EDITION: usize = 5;
 
-const COUNT: usize = 6;
+const ROOM: usize = 6;
+
+const COUNT: usize = 7;
 
 // What the output holds before the call, so that a reader sees which bytes were left alone.
 const UNWRITTEN: u8 = 0x5A;
@@ -46,10 +48,10 @@ fn print_answer(number: u64, refusal: u8, output: &[u8]) {
     end_line(&mut line, at);
 }
 
-fn write_and_print(number: u64, head: Head, objects: &[u32], room: u8) {
+fn write_and_print(number: u64, fixed: &[u8; FIXED], objects: &[u32]) {
     let mut buffer = [UNWRITTEN; GREATEST];
-    let output = &mut buffer[0..length_of(room)];
-    let refusal = writing::write(head, objects, output);
+    let output = &mut buffer[0..length_of(fixed[ROOM])];
+    let refusal = writing::write_numbered(fixed[EDITION], head_of(fixed), objects, output);
     print_answer(number, refusal, output);
 }
 
@@ -60,7 +62,7 @@ fn answer_objects(number: u64, fixed: &[u8; FIXED]) -> Turn {
     if !fill_words(objects) {
         return Turn::Cut;
     }
-    write_and_print(number, head_of(fixed), objects, fixed[ROOM]);
+    write_and_print(number, fixed, objects);
     Turn::Answered
 }
 

@@ -1,4 +1,6 @@
 -- Two ports held against each other: their numbers are the same where each part is.
+use types.Run.{OneOf, miss}
+use denote.Enum.Declared.{tagOf}
 use mathlib.Core.Path.{_≡_, refl, ap, sym, _∙_}
 use mathlib.Core.Bool.{Bool, true, false, not, _&&_, and-true, and-assoc}
 use mathlib.Core.List.{List, [], _∷_, _++_}
@@ -9,6 +11,9 @@ use lib.Dec.{eqb}
 use lib.ListN.{length, length-append}
 use borrow.Author.Tests.{eq-eqb, ne-eqb, not-true, not-false}
 use Rattle.messages.specs.Editions.{editionNumber}
+use Rattle.messages.specs.declared.edition.Edition.{Edition}
+use Rattle.messages.specs.declared.edition.Edition.the-variants.{OneZero, TwoZero, TwoOne}
+use Rattle.messages.proofs.edition.Edition.{the-type}
 use Rattle.messages.specs.Requests.{sameRequest}
 use Rattle.messages.specs.declared.request.Request.{Request}
 use Rattle.taking.specs.Taking.{sameList}
@@ -23,6 +28,40 @@ use Rattle.port.specs.declared.Wait.{Wait}
 use Rattle.port.specs.declared.Wait.the-variants.{Nothing, Answer}
 use Rattle.controller.specs.Port.{waitIn, ownFrom, portFrom, sideNumber, candidateNumber, waitNumbers, heldNumbers, ownNumbers, portNumbers}
 use Rattle.controller.proofs.PortNumbers.{wait-length, held-length, own-length}
+
+-- two editions
+pub one-edition : (a b : Edition) {x : Edition} → a ≡ x → b ≡ x → true ≡ eqb (editionNumber a) (editionNumber b)
+one-edition a b e f = sym (eq-eqb _ _ (ap editionNumber (e ∙ sym f)))
+
+abbrev is-not : (b x : Edition) → Type 0
+is-not b x = false ≡ eqb (editionNumber x) (editionNumber b)
+
+first-is : (a b : Edition) {x : Edition} → a ≡ x → is-not b x → is-not b a
+first-is a b e h = h ∙ ap (λ (y : Edition). eqb (editionNumber y) (editionNumber b)) (sym e)
+
+not-one-zero : (b : Edition) → OneOf (1 ∷ 2 ∷ []) (tagOf the-type b) → is-not b OneZero
+not-one-zero OneZero k = absurd (miss (1 ∷ 2 ∷ []) 0 tt k)
+not-one-zero TwoZero k = refl
+not-one-zero TwoOne k = refl
+
+not-two-zero : (b : Edition) → OneOf (0 ∷ 2 ∷ []) (tagOf the-type b) → is-not b TwoZero
+not-two-zero OneZero k = refl
+not-two-zero TwoZero k = absurd (miss (0 ∷ 2 ∷ []) 1 tt k)
+not-two-zero TwoOne k = refl
+
+not-two-one : (b : Edition) → OneOf (0 ∷ 1 ∷ []) (tagOf the-type b) → is-not b TwoOne
+not-two-one OneZero k = refl
+not-two-one TwoZero k = refl
+not-two-one TwoOne k = absurd (miss (0 ∷ 1 ∷ []) 2 tt k)
+
+pub one-zero-only : (a b : Edition) → a ≡ OneZero → OneOf (1 ∷ 2 ∷ []) (tagOf the-type b) → false ≡ eqb (editionNumber a) (editionNumber b)
+one-zero-only a b e k = first-is a b e (not-one-zero b k)
+
+pub two-zero-only : (a b : Edition) → a ≡ TwoZero → OneOf (0 ∷ 2 ∷ []) (tagOf the-type b) → false ≡ eqb (editionNumber a) (editionNumber b)
+two-zero-only a b e k = first-is a b e (not-two-zero b k)
+
+pub two-one-only : (a b : Edition) → a ≡ TwoOne → OneOf (0 ∷ 1 ∷ []) (tagOf the-type b) → false ≡ eqb (editionNumber a) (editionNumber b)
+two-one-only a b e k = first-is a b e (not-two-one b k)
 
 -- two sizes
 module _ (a b : Size) where
@@ -125,10 +164,10 @@ module _ (a b : Own) {x y : ℕ} (first : x ≡ candidateNumber (a .candidate)) 
           pub other-held : not r ≡ true → false ≡ sameList (ownNumbers a) (ownNumbers b)
           other-held h = rw (own-parts a b, ← first, ← second, eq-eqb x y candidates, ← size, not-false t sizes, eq-eqb _ _ stored, eq-eqb _ _ pages, ← held, not-true r h)
 
-          pub only-edition : not r ≡ false → {u v : ℕ} → u ≡ editionNumber (a .edition) → v ≡ editionNumber (b .edition) →
-              eqb u v ≡ sameList (ownNumbers a) (ownNumbers b)
-          only-edition h e f =
-              rw (own-parts a b, ← first, ← second, eq-eqb x y candidates, ← size, not-false t sizes, eq-eqb _ _ stored, eq-eqb _ _ pages, ← held, not-false r h, e, f)
+          pub only-edition : not r ≡ false → {u : Bool} → u ≡ eqb (editionNumber (a .edition)) (editionNumber (b .edition)) →
+              u ≡ sameList (ownNumbers a) (ownNumbers b)
+          only-edition h e =
+              rw (own-parts a b, ← first, ← second, eq-eqb x y candidates, ← size, not-false t sizes, eq-eqb _ _ stored, eq-eqb _ _ pages, ← held, not-false r h, e)
 
 port-parts : (a b : Port) → sameList (portNumbers a) (portNumbers b) ≡
     ((sameList (waitNumbers (a .wait)) (waitNumbers (b .wait)) && sameList (ownNumbers (a .partner)) (ownNumbers (b .partner))) &&

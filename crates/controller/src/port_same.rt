@@ -3,12 +3,13 @@ ghost use mathlib.Core.Path.{_≡_};
 ghost use mathlib.Core.Bool.{_&&_};
 ghost use lib.Dec.{eqb};
 ghost use Rattle.taking.specs.Taking.{sameList};
+ghost use Rattle.messages.specs.Editions.{editionNumber};
 ghost use Rattle.controller.specs.Port.{waitNumbers, heldNumbers, ownNumbers};
 use crate::numbers::side_number;
 use crate::port_writing::candidate_number;
 use laptop::Held;
 use laptop::Size;
-use messages::edition_number;
+use messages::Edition;
 use messages::same_request;
 use port::Own;
 use port::Wait;
@@ -55,6 +56,26 @@ fn same_held(a: Held, b: Held) -> bool
     same_size(first, second)
 }
 
+// Their numbers would have to be looked up, both, which takes a place on the stack.
+fn same_edition(a: Edition, b: Edition) -> bool
+    ensures { λ r. ⌜ r ≡ eqb (editionNumber a) (editionNumber b) ⌝ }
+{
+    match a {
+        Edition::OneZero => match b {
+            Edition::OneZero => true,
+            _ => false,
+        },
+        Edition::TwoZero => match b {
+            Edition::TwoZero => true,
+            _ => false,
+        },
+        Edition::TwoOne => match b {
+            Edition::TwoOne => true,
+            _ => false,
+        },
+    }
+}
+
 pub(crate) fn same_own(a: Own, b: Own) -> bool
     ensures { λ r. ⌜ r ≡ sameList (ownNumbers a) (ownNumbers b) ⌝ }
 {
@@ -81,5 +102,5 @@ pub(crate) fn same_own(a: Own, b: Own) -> bool
     }
     let edition = a.edition;
     let other_edition = b.edition;
-    edition_number(edition) == edition_number(other_edition)
+    same_edition(edition, other_edition)
 }

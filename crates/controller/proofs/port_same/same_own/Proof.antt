@@ -32,14 +32,11 @@ same-held-requires c κs = search needs
 returns-5 : tie.Need-returns-5
 returns-5 c = other-held (c .before .before .before .before .before .before .before .before .before .before .before .before .before .before .before .args .a) (c .before .before .before .before .before .before .before .before .before .before .before .before .before .before .before .args .b) (c .before .before .before .before .before .before .before .before .before .before .before .before .before .before .candidate-number .ensures) (c .before .before .before .before .before .before .before .before .before .before .before .before .before .candidate-number2 .ensures) (c .before .before .before .before .before .before .before .before .before .before .before .before .if1 .left) (c .before .before .before .before .before .before .before .before .before .same-size .ensures) (c .before .before .before .before .before .before .before .before .if2 .left) (omega arith) (omega arith) (c .before .same-held .ensures) (c .if5 .taken)
 
-edition-number-requires : tie.Need-edition-number-requires
-edition-number-requires c κs = search needs
-
-edition-number-requires-2 : tie.Need-edition-number-requires-2
-edition-number-requires-2 c κs = search needs
+same-edition-requires : tie.Need-same-edition-requires
+same-edition-requires c κs = search needs
 
 returns-6 : tie.Need-returns-6
-returns-6 c = only-edition (c .before .before .before .before .before .before .before .before .before .before .before .before .before .before .before .before .before .args .a) (c .before .before .before .before .before .before .before .before .before .before .before .before .before .before .before .before .before .args .b) (c .before .before .before .before .before .before .before .before .before .before .before .before .before .before .before .before .candidate-number .ensures) (c .before .before .before .before .before .before .before .before .before .before .before .before .before .before .before .candidate-number2 .ensures) (c .before .before .before .before .before .before .before .before .before .before .before .before .before .before .if1 .left) (c .before .before .before .before .before .before .before .before .before .before .before .same-size .ensures) (c .before .before .before .before .before .before .before .before .before .before .if2 .left) (omega arith) (omega arith) (c .before .before .before .same-held .ensures) (c .before .before .if5 .left) (c .before .edition-number .ensures) (c .edition-number2 .ensures)
+returns-6 c = only-edition (c .before .before .before .before .before .before .before .before .before .before .before .before .before .before .before .before .args .a) (c .before .before .before .before .before .before .before .before .before .before .before .before .before .before .before .before .args .b) (c .before .before .before .before .before .before .before .before .before .before .before .before .before .before .before .candidate-number .ensures) (c .before .before .before .before .before .before .before .before .before .before .before .before .before .before .candidate-number2 .ensures) (c .before .before .before .before .before .before .before .before .before .before .before .before .before .if1 .left) (c .before .before .before .before .before .before .before .before .before .before .same-size .ensures) (c .before .before .before .before .before .before .before .before .before .if2 .left) (omega arith) (omega arith) (c .before .before .same-held .ensures) (c .before .if5 .left) (c .same-edition .ensures)
 
 pub same-own-spec : {M : Type 1} → statement M
 same-own-spec =
@@ -54,6 +51,5 @@ same-own-spec =
     returns-4
     same-held-requires
     returns-5
-    edition-number-requires
-    edition-number-requires-2
+    same-edition-requires
     returns-6)

@@ -7,8 +7,12 @@ use text::line::append_decimal;
 // A longer file counts as one of so many bytes.
 pub const MOST_BYTES: usize = 4096;
 
-// The longest line: a number of seven digits, what is asked, five fields of up to four digits, four digests, and a stretch of 30 bytes.
-pub const LONGEST: usize = 160;
+// The longest line: a number of seven digits, what is asked, fourteen fields of up to seven letters or four digits, five digests, and a stretch of 30
+// bytes.
+pub const LONGEST: usize = 220;
+
+// Each byte of what is lent is this before the call, so that a reader sees what was left alone.
+pub const UNWRITTEN: u8 = 0xEE;
 
 // A number of the input, which counts as `most` where it is greater.
 pub fn at_most(low: u8, high: u8, most: usize) -> usize

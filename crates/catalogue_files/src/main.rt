@@ -1,5 +1,6 @@
-// Answers the catalogue files on standard input: each is read back, or one of its records is, and gets one line on standard output.
+// Answers the catalogue files on standard input: each is read back and mended, or one of its records is read, and gets one line on standard output.
 mod file;
+mod mend_file;
 mod read_file;
 mod read_record;
 

@@ -1,10 +1,13 @@
-// The catalogue of a file, and the stretch of one SVID: a run is lent, and both answers stand in one line.
+// The catalogue of a file, the stretch of one SVID, and the file mended: all answers stand in one line.
 ghost use Prim.Native.Nat.{_≤_};
 use crate::file::LONGEST;
 use crate::file::MOST_BYTES;
+use crate::file::UNWRITTEN;
 use crate::file::append_number;
 use crate::file::at_most;
 use crate::file::begin_line;
+use crate::mend_file::BUFFER;
+use crate::mend_file::append_mending;
 use driving::digest::of_bytes;
 use driving::digest::of_halves;
 use driving::digest::of_words;
@@ -22,18 +25,16 @@ use text::line::append_spaced_bytes;
 use text::line::append_spaced_word;
 use text::line::end_line;
 
-// The length of the part before the file: the words that are lent, the SVID and the file's length, two bytes each.
-const FIXED: usize = 6;
+// The length of the part before the file: the words that are lent, the SVID, the bytes that are lent and the file's length, two bytes each.
+const FIXED: usize = 8;
 
 // The words of the whole array, of which the first are lent.
 const RUN: usize = 440;
 
-// What is lent holds these before the call, so that a reader sees what was left alone.
+// What is lent as halves and words, before the call.
 const UNWRITTEN_WORD: u32 = 0xEEEEEEEE;
 
 const UNWRITTEN_HALF: u16 = 0xEEEE;
-
-const UNWRITTEN: u8 = 0xEE;
 
 fn append_rebuilt(line: &mut [u8], at: usize, rebuilt: Rebuilt) -> usize {
     let at = append_field(line, at, rebuilt.refusal);
@@ -93,13 +94,15 @@ fn append_stretch(line: &mut [u8], at: usize, bytes: &[u8], svid: u16) -> usize 
     append_part(line, at, bytes_from(bytes, place.at, place.length))
 }
 
-fn print_answer(number: u64, bytes: &[u8], words: usize, svid: u16)
+fn print_answer(number: u64, bytes: &[u8], words: usize, svid: u16, room: usize)
     requires { ⌜ words ≤ 440 ⌝ }
+    requires { ⌜ room ≤ 2410 ⌝ }
 {
     let mut line = [0u8; LONGEST];
     let at = begin_line(&mut line, number, b" read");
     let at = append_catalogue(&mut line, at, bytes, words);
     let at = append_stretch(&mut line, at, bytes, svid);
+    let at = append_mending(&mut line, at, bytes, room);
     end_line(&mut line, at);
 }
 
@@ -111,11 +114,12 @@ pub fn answer(number: u64) -> Turn {
     }
     let words = at_most(fixed[0], fixed[1], RUN);
     let svid = half_of(fixed[2], fixed[3]);
+    let room = at_most(fixed[4], fixed[5], BUFFER);
     let mut buffer = [0u8; MOST_BYTES];
-    let bytes = &mut buffer[0..at_most(fixed[4], fixed[5], MOST_BYTES)];
+    let bytes = &mut buffer[0..at_most(fixed[6], fixed[7], MOST_BYTES)];
     if !fill(bytes) {
         return Turn::Cut;
     }
-    print_answer(number, bytes, words, svid);
+    print_answer(number, bytes, words, svid, room);
     Turn::Answered
 }

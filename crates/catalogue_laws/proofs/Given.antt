@@ -71,10 +71,10 @@ module _ (bytes : List ℕ) where
           (omega (arith, reach at r n e, length-drop at bytes, length-drop (at + n) bytes)))
 
   -- what is given is judged: behind records that it has passed the walk comes to what it comes to from the front
-  record Underway (at : ℕ) (c : Catalogue) : Type 0 where
-    left : ℕ
-    enough : length bytes ≤ at + left
-    same : judgementOf bytes ≡ walkFrom (suc left) at c (drop at bytes)
+  pub record Underway (at : ℕ) (c : Catalogue) : Type 0 where
+    pub left : ℕ
+    pub enough : length bytes ≤ at + left
+    pub same : judgementOf bytes ≡ walkFrom (suc left) at c (drop at bytes)
 
   underway-on : (at : ℕ) (c : Catalogue) → Underway at c → (r : Record) (n : ℕ) → foundIn (drop at bytes) ≡ Whole r n → (Wrong c r → ⊥) → isEnd r ≡ false →
       Underway (at + n) (added c r (drop at bytes))
@@ -90,7 +90,7 @@ module _ (bytes : List ℕ) where
             ap₂ (λ (k : ℕ) (l : List ℕ). walkFrom k (at + n) (added c r (drop at bytes)) l) more (drop-drop n at bytes);
       }
 
-  underway : {at : ℕ} {c : Catalogue} → Passed bytes at c → Underway at c
+  pub underway : {at : ℕ} {c : Catalogue} → Passed bytes at c → Underway at c
   unfolding judgementOf
   underway front = record { left = length bytes; enough = omega arith; same = refl }
   underway (behind {at} {c} p r n e right is) = underway-on at c (underway p) r n e right is

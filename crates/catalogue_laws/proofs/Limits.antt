@@ -180,7 +180,7 @@ keeps at c bytes r n b k found follows = go (told (w .kind) (w .rest) (w .known)
         keeping-as c bytes bytes refl r (Mode (modeIn (w .rest))) variant (keeps-mode at c k (modeIn (w .rest)) bytes (objects-below (w .rest) below 0) (may _ variant))
     go (end j e l) = keeping-as c bytes bytes refl r End (w .record-is ∙ e) k
 
-passed-keeps : {bytes : List ℕ} {at : ℕ} {c : Catalogue} → Below 256 bytes → Passed bytes at c → Keeping c
+pub passed-keeps : {bytes : List ℕ} {at : ℕ} {c : Catalogue} → Below 256 bytes → Passed bytes at c → Keeping c
 passed-keeps b front = keeping-front
 passed-keeps {bytes} b (behind {at} {c} p r n e right more) =
     keeps at c (drop at bytes) r n (drop-below 256 at bytes b) (passed-keeps b p) e (right-exactly at c r .1 right)

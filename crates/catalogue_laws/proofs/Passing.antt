@@ -32,6 +32,13 @@ identityBytes (object ∷ objects) = length (object ∷ objects) ∷ bytesOf (ob
 unfoldable pub passedBytes : Catalogue → List ℕ
 passedBytes c = identityBytes (c .identity) ++ entriesBytes (c .entries)
 
+-- a beginning of the entries' bytes, behind the identity's
+pub passed-part : (c : Catalogue) (entries : List Entry) (more : List ℕ) → entriesBytes (c .entries) ≡ entriesBytes entries ++ more →
+    passedBytes c ≡ passedBytes (record { identity = c .identity; entries = entries }) ++ more
+unfolding passedBytes
+passed-part c entries more e =
+    ap (λ (l : List ℕ). identityBytes (c .identity) ++ l) e ∙ sym (append-assoc (identityBytes (c .identity)) (entriesBytes entries) more)
+
 -- no SVID is passed before the identity
 abbrev pub Begun : Catalogue → Type 0
 Begun c = length (c .identity) ≡ 0 → c .entries ≡ []

@@ -18,7 +18,7 @@ use Rattle.catalogue_laws.proofs.Given.{given-exactly}
 use Rattle.catalogue_laws.proofs.Sized.{Sized, sized-on, sized-front}
 use Rattle.catalogue_laws.proofs.Words.{right-exactly}
 
-passed-within : {bytes : List ℕ} {at : ℕ} {c : Catalogue} → Passed bytes at c → at ≤ length bytes
+pub passed-within : {bytes : List ℕ} {at : ℕ} {c : Catalogue} → Passed bytes at c → at ≤ length bytes
 passed-within front = omega arith
 passed-within {bytes} (behind {at} p r n e right more) = omega (arith, passed-within p, whole-length (drop at bytes) r n e, length-drop at bytes)
 

@@ -34,7 +34,7 @@ passed-bytes {bytes} b (behind {at} {c} p r n e right more) =
     (one .bytes-are ∙ ap (λ (l : List ℕ). l ++ take n (drop at bytes)) (before .0) ∙ sym (take-add at n bytes), one .begun)
 
 -- the end behind it makes a catalogue's bytes
-passed-ended : (c : Catalogue) → 0 < length (c .identity) → passedBytes c ++ endKind ∷ [] ≡ catalogueBytes c
+pub passed-ended : (c : Catalogue) → 0 < length (c .identity) → passedBytes c ++ endKind ∷ [] ≡ catalogueBytes c
 unfolding passedBytes catalogueBytes
 passed-ended c begun = go (c .identity) begun
   where

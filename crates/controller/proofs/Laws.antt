@@ -1,7 +1,9 @@
 -- What holds of the numbers that a caller lends, by the promises of the calls.
+use mathlib.Core.Logic.{_⊎_, inl, inr}
 use mathlib.Core.Path.{_≡_, refl, ap, sym, _∙_}
 use mathlib.Core.List.{List, []}
 use Prim.Native.Nat.{ℕ}
+use native.Mathlib.Omega.{arith}
 use lib.ListN.{length, replicate}
 use denote.Ref.{RefT, now}
 use Rattle.dock.specs.Data.{freshDock}
@@ -21,8 +23,14 @@ use Rattle.port.specs.Sides.{ownOf, seen, putBack, freshPort}
 use Rattle.port.specs.declared.Port.{Port}
 use Rattle.port.specs.declared.Side.{Side}
 use Rattle.controller.specs.CatalogueCall.{CatalogueCall}
+use Rattle.controller.specs.CatalogueMending.{numberGiven, keptGiven, MendCall}
 use Rattle.controller.specs.CatalogueReading.{arraysOf, readOf, ReadCall, placeOf, StretchCall}
+use Rattle.judging.specs.Judging.{judgementOf}
 use Rattle.rebuilding.proofs.Laws.{refused-leaves}
+use Rattle.mending.specs.Mending.{noIdentity, shortBuffer, mendRefusal}
+use Rattle.mending.specs.declared.Mended.{Mended}
+use Rattle.mending.proofs.Laws.{number-given}
+use Rattle.mending.proofs.Outcomes.{mending-refused}
 use Rattle.controller.specs.Dock.{dockFrom, dockNumbers}
 use Rattle.controller.specs.DockCalls.{DockSendsNothing, DockSends, DockLoads}
 use Rattle.controller.specs.LaptopCalls.{LaptopSendsNothing, LaptopSends, LaptopHears}
@@ -147,6 +155,23 @@ pub catalogue-stretch-refusal : {bytes : List ℕ} {svid result : ℕ} {found : 
     left found ≡ lent found
 catalogue-stretch-refusal refused p = refused-kept _ refused (p .length-is)
 
+-- one of mending leaves the buffer and what is kept; and 0 is given of a sound file alone
+pub catalogue-mend-refusal : {bytes : List ℕ} {result : ℕ} {out kept : Lent (List ℕ)} (number : ℕ) → (number ≡ 0 → ⊥) →
+    mendRefusal (judgementOf bytes) (length (lent out)) ≡ number → MendCall bytes result out kept → (left out ≡ lent out) × (left kept ≡ lent kept)
+unfolding keptGiven
+catalogue-mend-refusal {bytes} {out = out} {kept} number other is p =
+    let refused = mending-refused bytes (lent out) number other is in
+    (p .buffer-is ∙ ap (λ (m : Mended × List ℕ). m .1) refused, p .kept-are ∙ ap (λ (m : Mended × List ℕ). keptGiven (m .0) (lent kept)) refused)
+
+pub catalogue-mend-sound : {bytes : List ℕ} {result : ℕ} {out kept : Lent (List ℕ)} → result ≡ 0 → MendCall bytes result out kept → judgementOf bytes .refusal ≡ 0
+unfolding numberGiven
+catalogue-mend-sound {bytes} {result} {out} zero p = go (number-given bytes (lent out)) (omega (arith, zero, p .result-is))
+  where
+    go : {n : ℕ} → (n ≡ noIdentity) ⊎ ((n ≡ shortBuffer) ⊎ (n ≡ judgementOf bytes .refusal)) → n ≡ 0 → judgementOf bytes .refusal ≡ 0
+    go (inl e) z = absurd (omega arith)
+    go (inr (inl e)) z = absurd (omega arith)
+    go (inr (inr e)) z = sym e ∙ z
+
 -- of two results that a promise allows of one call, lent the same, all that is returned and left is the same
 module _ {decide : Dock → Decision} {number number′ : ℕ} {state identity svids : Lent (List ℕ)} {bytes : Lent ℕ} {state′ : RefT (List ℕ)}
     {bytes′ : RefT ℕ} where
@@ -202,6 +227,10 @@ catalogue-read-only p p′ = (p .result-is ∙ sym (p′ .result-is), p .sizes-a
 pub catalogue-stretch-only : {bytes : List ℕ} {svid result result′ : ℕ} {found : Lent ℕ} {found′ : RefT ℕ} → StretchCall bytes svid result found →
     StretchCall bytes svid result′ (leaving found found′) → (result ≡ result′) × (left found ≡ now found′)
 catalogue-stretch-only p p′ = (p .result-is ∙ sym (p′ .result-is), p .length-is ∙ sym (p′ .length-is))
+
+pub catalogue-mend-only : {bytes : List ℕ} {result result′ : ℕ} {out kept : Lent (List ℕ)} {out′ kept′ : RefT (List ℕ)} → MendCall bytes result out kept →
+    MendCall bytes result′ (leaving out out′) (leaving kept kept′) → (result ≡ result′) × (left out ≡ now out′) × (left kept ≡ now kept′)
+catalogue-mend-only p p′ = (p .result-is ∙ sym (p′ .result-is), p .buffer-is ∙ sym (p′ .buffer-is), p .kept-are ∙ sym (p′ .kept-are))
 
 -- a fresh dock, a fresh laptop, and the report
 pub dock-fresh-only : {state identity svids state′ identity′ svids′ : List ℕ} →

@@ -4,6 +4,7 @@ pub mod DockHanding
 pub mod DockNumbers
 pub mod LaptopHanding
 pub mod Laws
+pub mod Mending
 pub mod Only
 pub mod PortNumbers
 pub mod PortSame

@@ -32,7 +32,12 @@ use Rattle.port.specs.declared.Port.{Port}
 use Rattle.port.specs.declared.Side.{Side}
 use Rattle.rebuilding.proofs.Laws.{only-these}
 use Rattle.stretches.proofs.Laws.{only-these as Stretch·only-these}
+use Rattle.judging.specs.Judging.{judgementOf}
+use Rattle.catalogue_laws.proofs.Given.{only-these as File·only-these}
+use Rattle.mending.specs.Mending.{noIdentity, shortBuffer, mendedNumber, mendedOffset, mendingOf}
+use Rattle.mending.proofs.Laws.{number-given}
 use Rattle.controller.specs.CatalogueCall.{CatalogueCall}
+use Rattle.controller.specs.CatalogueMending.{numberGiven, MendCall}
 use Rattle.controller.specs.CatalogueReading.{withOffset, readOf, ReadCall, placeOf, StretchCall}
 use Rattle.controller.specs.DockCalls.{dockLent, DockSendsNothing, DockSends, DockLoads}
 use Rattle.controller.specs.LaptopCalls.{LaptopStep, LaptopSendsNothing, LaptopSends, LaptopHears}
@@ -157,3 +162,15 @@ catalogue-read-not-4 {bytes} {result} {run = run} four p =
 pub catalogue-stretch-not-4 : {bytes : List ℕ} {svid result : ℕ} {found : Lent ℕ} → result % 256 ≡ 4 → StretchCall bytes svid result found → ⊥
 catalogue-stretch-not-4 {bytes} {svid} {result} four p =
     low-not-4 (placeOf bytes svid .refusal) 12 (placeOf bytes svid .at) result (Stretch·only-these bytes svid) (omega arith) (omega arith) (p .result-is) four
+
+pub catalogue-mend-not-4 : {bytes : List ℕ} {result : ℕ} {out kept : Lent (List ℕ)} → result % 256 ≡ 4 → MendCall bytes result out kept → ⊥
+unfolding numberGiven
+catalogue-mend-not-4 {bytes} {result} {out} four p =
+    go (mendedNumber (mendingOf bytes (lent out) .0)) (mendedOffset (mendingOf bytes (lent out) .0)) (number-given bytes (lent out)) (File·only-these bytes) (p .result-is)
+  where
+    go : (n at : ℕ) → (n ≡ noIdentity) ⊎ ((n ≡ shortBuffer) ⊎ (n ≡ judgementOf bytes .refusal)) →
+        (judgementOf bytes .refusal ≡ 0) ⊎ ((15 ≤ judgementOf bytes .refusal) × (judgementOf bytes .refusal ≤ 18)) → result ≡ withOffset n at → ⊥
+    go n at (inl e) other is = omega arith
+    go n at (inr (inl e)) other is = omega arith
+    go n at (inr (inr e)) (inl none) is = omega arith
+    go n at (inr (inr e)) (inr fault) is = omega arith

@@ -9,7 +9,7 @@ use rebuilding::read_catalogue;
 use stretches::find_stretch;
 
 // The refusal number in the low eight bits, and the offset above them.
-fn with_offset(number: u8, at: usize) -> u32
+pub(crate) fn with_offset(number: u8, at: usize) -> u32
     requires { ⌜ at ≤ 2402 ⌝ }
     ensures { λ r. ⌜ r ≡ withOffset number at ⌝ }
 {

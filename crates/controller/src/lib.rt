@@ -4,6 +4,7 @@
 // the numbers into the state, makes the call, writes the new state back and gives the refusal number. A refusal changes no lent number, unless
 // it changes the laptop's state.
 mod catalogue_call;
+mod catalogue_mending;
 mod catalogue_reading;
 mod dock_calls;
 mod dock_state;

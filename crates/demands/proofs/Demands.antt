@@ -5,7 +5,7 @@ use mathlib.Core.Option.{some}
 use mathlib.Core.Path.{_≡_}
 use mathlib.Core.Bool.{true, false}
 use mathlib.Core.List.{List, [], _∷_, _++_}
-use Prim.Native.Nat.{ℕ, _+_, _*_, _/_, _^_, _<_, _≤_}
+use Prim.Native.Nat.{ℕ, _+_, _-_, _*_, _/_, _^_, _<_, _≤_}
 use lib.ListN.{length, getD, take, replicate}
 use Rattle.laws.specs.Bounded.{Below}
 use Rattle.messages.specs.Editions.{ours, lower}
@@ -69,13 +69,13 @@ use Rattle.dock_laws.proofs.Reserved.{effect-same as Dock·effect-same}
 use Rattle.dock_laws.proofs.Reserved.{dock-same}
 use Rattle.dock_laws.proofs.SentAt.{sent-at as Dock·sent-at}
 use Rattle.dock_laws.proofs.SentAt.{answered-at, nak-at}
-use Rattle.catalogue.specs.Bytes.{catalogueBytes, HeldCatalogue, holding, heldCatalogue, CatalogueWritten}
+use Rattle.catalogue.specs.Bytes.{endKind, catalogueBytes, writtenInto, HeldCatalogue, holding, heldCatalogue, CatalogueWritten}
 use Rattle.catalogue.specs.declared.Bytes.{Bytes}
 use Rattle.catalogue.proofs.Laws.{refused-leaves}
 use Rattle.laptop.specs.Catalogue.{Catalogue, catalogueIn}
 use Rattle.records.specs.declared.Record.{Record}
 use Rattle.judging.specs.Judging.{judgement, judgementOf}
-use Rattle.judging.specs.Walking.{svidsOf, walkOf, mayFollow}
+use Rattle.judging.specs.Walking.{svidsOf, allModes, walkOf, mayFollow}
 use Rattle.catalogue_laws.specs.Given.{Given as File·Given}
 use Rattle.catalogue_laws.specs.Within.{Within}
 use Rattle.catalogue_laws.specs.Words.{Wrong}
@@ -91,6 +91,17 @@ use Rattle.rebuilding.proofs.Holding.{read-holds}
 use Rattle.rebuilding.proofs.Laws.{refused-leaves as Reading·refused-leaves}
 use Rattle.stretches.specs.Stretches.{stretchIn}
 use Rattle.stretches.proofs.Laws.{not-listed-exactly}
+use Rattle.mending.specs.Beginning.{BeginningOf}
+use Rattle.mending.specs.Mending.{keptOf, keptBytes, mendRefusal, reportOf, mendingOf}
+use Rattle.mending.specs.declared.Mended.the-variants.{Refused as Mended·Refused}
+use Rattle.mending.specs.declared.Mended.the-variants.{Sound as Mended·Sound}
+use Rattle.mending.specs.declared.keeping.Kept.{Kept as Mending·Kept}
+use Rattle.mending.proofs.Cutting.{cut-begins, nothing-behind}
+use Rattle.mending.proofs.Front.{kept-before, kept-front}
+use Rattle.mending.proofs.Fronts.{AtFront, identity-exactly, refused-19-exactly, refused-11-exactly}
+use Rattle.mending.proofs.Laws.{sound-mended, mended-again, report-true, only-sound, front-mended}
+use Rattle.mending.proofs.Outcomes.{mending-refused}
+use Rattle.mending.proofs.Within.{mended-accepted}
 use Rattle.demands.specs.Numbers.{AnyCall, numberGiven}
 use Rattle.demands.proofs.HeldWithin.{Wide, held-within, held-reads}
 use Rattle.demands.proofs.NeverFour.{never-four}
@@ -330,6 +341,66 @@ reading-rebuilds = read-holds
 pub twelve-exactly : (bytes : List ℕ) (svid : ℕ) →
     (stretchIn (judgementOf bytes) svid .refusal ≡ 12) ↔ ((judgementOf bytes .refusal ≡ 0) × (isIn svid (svidsOf (judgementOf bytes .catalogue .entries)) ≡ false))
 twelve-exactly = not-listed-exactly
+
+-- A DAMAGED CATALOGUE MENDED (02, R-6). It is refused 19 exactly where no whole identity stands at the front, then 11 exactly where the second buffer is shorter
+-- than what comes out; neither writes anything.
+pub nineteen-exactly : (bytes : List ℕ) (room : ℕ) → (mendRefusal (judgementOf bytes) room ≡ 19) ↔ (AtFront bytes → ⊥)
+nineteen-exactly = refused-19-exactly
+
+pub eleven-exactly : (bytes : List ℕ) (room : ℕ) → (mendRefusal (judgementOf bytes) room ≡ 11) ↔ (AtFront bytes × (room < length (keptBytes (judgementOf bytes))))
+eleven-exactly = refused-11-exactly
+
+pub mending-refusal-leaves : (bytes out : List ℕ) (number : ℕ) → (number ≡ 0 → ⊥) → mendRefusal (judgementOf bytes) (length out) ≡ number →
+    mendingOf bytes out ≡ (Mended·Refused number, out)
+mending-refusal-leaves = mending-refused
+
+-- A sound file comes out the same, and only a sound file is called sound.
+pub sound-comes-out-the-same : (bytes : List ℕ) → Below 256 bytes → judgementOf bytes .refusal ≡ 0 → (out : List ℕ) → length bytes ≤ length out →
+    mendingOf bytes out ≡ (Mended·Sound (reportOf (judgementOf bytes)), writtenInto out bytes)
+sound-comes-out-the-same = sound-mended
+
+pub only-a-sound-file-is-called-sound : (bytes out : List ℕ) (kept : Mending·Kept) → mendingOf bytes out .0 ≡ Mended·Sound kept → judgementOf bytes .refusal ≡ 0
+only-a-sound-file-is-called-sound = only-sound
+
+module _ (bytes : List ℕ) (b : Below 256 bytes) (begun : AtFront bytes) where
+  -- what comes out of a file with its identity
+  abbrev mended : List ℕ
+  mended = keptBytes (judgementOf bytes)
+
+  -- is always accepted, and reads as what was kept;
+  pub mended-is-accepted : judgementOf mended ≡ judgement 0 (length mended) (keptOf (judgementOf bytes .catalogue))
+  mended-is-accepted = mended-accepted bytes b (identity-exactly bytes .1 begun)
+
+  -- mended again it is the same, called sound, with the same numbers;
+  pub mended-again-is-the-same : (out : List ℕ) → length mended ≤ length out → mendingOf mended out ≡ (Mended·Sound (reportOf (judgementOf bytes)), writtenInto out mended)
+  mended-again-is-the-same = mended-again bytes b (identity-exactly bytes .1 begun)
+
+  -- the report's numbers are those of the file that comes out;
+  pub report-is-of-what-comes-out : reportOf (judgementOf bytes) ≡ record {
+    svids = length (judgementOf mended .catalogue .entries);
+    modes = allModes (judgementOf mended .catalogue .entries);
+    length = length mended;
+  }
+  report-is-of-what-comes-out = report-true bytes b (identity-exactly bytes .1 begun)
+
+  -- and it is the front of the file, not past the fault, with the end behind it.
+  pub mended-is-the-front : (take (length mended - 1) bytes ++ endKind ∷ [] ≡ mended) × (length mended - 1 ≤ judgementOf bytes .at)
+  mended-is-the-front = (kept-front bytes b (identity-exactly bytes .1 begun), kept-before bytes b (identity-exactly bytes .1 begun))
+
+-- A file that was cut, wherever, is mended to a beginning of what it was: the same identity, and its first SVIDs in order with their modes, the last perhaps
+-- with fewer.
+pub a-cut-file-is-mended-to-a-beginning : (bytes : List ℕ) (k : ℕ) → AtFront (take k bytes) →
+    BeginningOf (judgementOf bytes .catalogue) (keptOf (judgementOf (take k bytes) .catalogue))
+a-cut-file-is-mended-to-a-beginning bytes k begun = cut-begins bytes k (identity-exactly (take k bytes) .1 begun)
+
+-- Nothing behind the fault is read on: files that are the same up to their faults, whatever follows, come out the same; and a program need read no more than
+-- the first 2,426 bytes.
+pub nothing-behind-the-fault : (bytes other : List ℕ) → judgementOf bytes .at ≡ judgementOf other .at →
+    take (judgementOf bytes .at) bytes ≡ take (judgementOf bytes .at) other → keptBytes (judgementOf bytes) ≡ keptBytes (judgementOf other)
+nothing-behind-the-fault = nothing-behind
+
+pub mended-by-its-front : (bytes out : List ℕ) → mendingOf (take 2426 bytes) out ≡ mendingOf bytes out
+mended-by-its-front = front-mended
 
 -- THE CABLE HAS A CATALOGUE TOO (02, R-4). Isolation, for one call and any state: an event of the other side (its messages and calls, and each timer or protocol
 -- error that comes while it waits) leaves a side's laptop and memory as they were;

@@ -1,6 +1,6 @@
 -- 4 is never given: 02 has withdrawn it (R-2).
 use mathlib.Core.Logic.{_⊎_, inl, inr}
-use mathlib.Core.Path.{_≡_, ap}
+use mathlib.Core.Path.{_≡_, ap, sym, _∙_}
 use mathlib.Core.Bool.{Bool, true, false, cond}
 use mathlib.Core.List.{List}
 use Prim.Native.Nat.{ℕ, _≤_}
@@ -43,7 +43,9 @@ use Rattle.rebuilding.specs.Rebuilding.{readAs}
 use Rattle.rebuilding.proofs.Laws.{only-these as Reading·only-these}
 use Rattle.stretches.specs.Stretches.{stretchIn}
 use Rattle.stretches.proofs.Laws.{only-these as Stretch·only-these}
-use Rattle.demands.specs.Numbers.{AnyCall, reads, writes, writesNumbered, ofDock, ofLaptop, ofPort, writesCatalogue, tellsFault, judges, readsCatalogue, findsStretch, sendsAnswer, refusesOwner, asksFor, hearsIdentity, hearsSvids, hearsModes, hearsMode, numberGiven}
+use Rattle.mending.specs.Mending.{noIdentity, shortBuffer, mendedNumber, mendingOf}
+use Rattle.mending.proofs.Laws.{number-given as Mending·number-given}
+use Rattle.demands.specs.Numbers.{AnyCall, reads, writes, writesNumbered, ofDock, ofLaptop, ofPort, writesCatalogue, tellsFault, judges, readsCatalogue, findsStretch, mends, sendsAnswer, refusesOwner, asksFor, hearsIdentity, hearsSvids, hearsModes, hearsMode, numberGiven}
 
 read-not-4 : (o : Outcome) → (o ≡ refused 4 → ⊥) → readNumber (shown o .outcome) ≡ 4 → ⊥
 unfolding shown
@@ -116,6 +118,12 @@ module _ (l : Laptop) where
       (either-not-4 (λ (f : Storing). f .step .refusal) (eqb kind ack) _ _
       (either-not-4 (λ (f : Storing). f .step .refusal) (ltb (l .stored) mostSvids) _ _ (λ e. omega arith) (λ e. omega arith)) (λ e. omega arith))
 
+-- mending gives 19, 11 or the fault's number
+mends-not-4 : (bytes : List ℕ) (n : ℕ) → (n ≡ noIdentity) ⊎ ((n ≡ shortBuffer) ⊎ (n ≡ judgementOf bytes .refusal)) → n ≡ 4 → ⊥
+mends-not-4 bytes n (inl e) four = omega (arith, e, four)
+mends-not-4 bytes n (inr (inl e)) four = omega (arith, e, four)
+mends-not-4 bytes n (inr (inr e)) four = file-not-4 (judgementOf bytes .refusal) (only-these bytes) (sym e ∙ four)
+
 pub never-four : (c : AnyCall) → numberGiven c ≡ 4 → ⊥
 unfolding numberGiven
 never-four (reads bytes) = read-not-4 (readOutcome bytes) (read-never-4 bytes)
@@ -129,6 +137,7 @@ never-four (writesCatalogue held words out) = catalogue-never-four held words (l
 never-four (tellsFault found) = found-not-4 found
 never-four (judges bytes) = file-not-4 (judgementOf bytes .refusal) (only-these bytes)
 never-four (readsCatalogue bytes words) = beside-not-4 (readAs words (judgementOf bytes) .refusal) 11 (Reading·only-these bytes words) (λ z. omega arith)
+never-four (mends bytes out) = mends-not-4 bytes (mendedNumber (mendingOf bytes out .0)) (Mending·number-given bytes out)
 never-four (findsStretch bytes svid) = beside-not-4 (stretchIn (judgementOf bytes) svid .refusal) 12 (Stretch·only-these bytes svid) (λ z. omega arith)
 never-four (sendsAnswer at r kind objects isPage d out) = answer-not-4 (reply r kind objects) d (sending isPage (withEdition at d)) (length out)
 never-four (refusesOwner l run heldRun) = owner-not-4 l run heldRun

@@ -34,6 +34,7 @@ use Rattle.records.specs.declared.Found.{Found}
 use Rattle.judging.specs.Judging.{judgementOf}
 use Rattle.rebuilding.specs.Rebuilding.{readAs}
 use Rattle.stretches.specs.Stretches.{stretchIn}
+use Rattle.mending.specs.Mending.{mendedNumber, mendingOf}
 
 pub data AnyCall : Type 0 where
   -- a message's bytes; a message, and the buffer; and what its edition's number names
@@ -46,11 +47,12 @@ pub data AnyCall : Type 0 where
   ofPort : Port·Call → Port → Memory → List ℕ → AnyCall
   -- the held catalogue, the words of its run, and the buffer
   writesCatalogue : HeldCatalogue → ℕ → List ℕ → AnyCall
-  -- what was found where a record is to stand; a file's bytes; and with the words of the run; and with an SVID
+  -- what was found where a record is to stand; a file's bytes; and with the words of the run; and with an SVID; and with a second buffer
   tellsFault : Found → AnyCall
   judges : List ℕ → AnyCall
   readsCatalogue : List ℕ → ℕ → AnyCall
   findsStretch : List ℕ → ℕ → AnyCall
+  mends : List ℕ → List ℕ → AnyCall
   -- parts that stand between the crates: the dock's answer to a request, at an edition, of a type, with objects, a page or not; the words of both runs; a request of the
   -- laptop's; an answer to Identity at an edition, to SVIDs, Modes, and Enter or Exit, by its type, what it brings and what is lent
   sendsAnswer : Edition → Request → ℕ → List ℕ → Bool → Dock → List ℕ → AnyCall
@@ -74,6 +76,7 @@ numberGiven (tellsFault found) = foundNumber found
 numberGiven (judges bytes) = judgementOf bytes .refusal
 numberGiven (readsCatalogue bytes words) = readAs words (judgementOf bytes) .refusal
 numberGiven (findsStretch bytes svid) = stretchIn (judgementOf bytes) svid .refusal
+numberGiven (mends bytes out) = mendedNumber (mendingOf bytes out .0)
 numberGiven (sendsAnswer e r kind objects isPage d out) =
     Dock·stepOf d (Dock·sends (reply r kind objects) (sending isPage (withEdition e d))) (length out) .refusal
 numberGiven (refusesOwner l run heldRun) = ownerRefusal l run heldRun

@@ -5,24 +5,24 @@ use lib.ListN.{take, replicate}
 use Rattle.judging.specs.Judging.{judgementOf}
 
 -- records, by their bytes
-abbrev identity : List ℕ
+abbrev pub identity : List ℕ
 identity = 0x03 ∷ replicate 12 0xEE
 
-abbrev svid : ℕ → List ℕ
+abbrev pub svid : ℕ → List ℕ
 svid number = 0x10 ∷ number % 256 ∷ number / 256 ∷ []
 
-abbrev mode : List ℕ
+abbrev pub mode : List ℕ
 mode = 0x20 ∷ 0x05 ∷ 0x04 ∷ 0x00 ∷ 0x00 ∷ []
 
-abbrev end : List ℕ
+abbrev pub end : List ℕ
 end = 0x00 ∷ []
 
 -- so many modes; SVIDs from a number on, each with a mode
-abbrev modes : ℕ → List ℕ
+abbrev pub modes : ℕ → List ℕ
 modes zero = []
 modes (suc n) = mode ++ modes n
 
-abbrev listed : ℕ → ℕ → List ℕ
+abbrev pub listed : ℕ → ℕ → List ℕ
 listed from zero = []
 listed from (suc n) = svid from ++ mode ++ listed (suc from) n
 

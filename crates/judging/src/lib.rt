@@ -14,6 +14,7 @@ use records::Record;
 use records::fault_of;
 use records::record_from;
 pub use walk::Walk;
+pub use walk::is_bare;
 use walk::may_follow;
 
 pub const OUT_OF_ORDER: u8 = 17;

@@ -19,7 +19,8 @@ pub struct Walk {
     pub modes: usize,
 }
 
-fn is_bare(walk: Walk) -> bool
+// The last SVID has no modes yet.
+pub fn is_bare(walk: Walk) -> bool
     ensures { λ r. ⌜ r ≡ isBare walk ⌝ }
 {
     if walk.count == 0 {

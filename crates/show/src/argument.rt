@@ -1,9 +1,4 @@
-// The words behind the program's name: a file, and an SVID in hex.
-use libc::PATH_MAX;
-
-// An argument that fills the room is longer than the name of any file, and than any SVID.
-pub const ROOM: usize = PATH_MAX;
-
+// The word for what is to be shown: an SVID in hex.
 const MOST_DIGITS: usize = 4;
 
 // What is to be shown of a catalogue; Malformed where the word for an SVID is none.
@@ -16,15 +11,6 @@ pub enum Asked {
 enum Digit {
     Of(u8),
     Other,
-}
-
-// Puts the argument at the start of the room and answers its length; one that is too long is cut, and fills the room.
-pub fn argument(index: usize, room: &mut [u8]) -> usize {
-    let length = os::arg(index, room);
-    if os::errno() == libc::ENAMETOOLONG {
-        return room.len();
-    }
-    length
 }
 
 fn digit_of(byte: u8) -> Digit {

@@ -1,17 +1,16 @@
 // Shows a catalogue file to people: all of it, or the modes of one SVID. docs/CATALOGUE.md has the lines.
 mod argument;
-mod input;
 mod printing;
 mod showing;
 
 use argument::Asked;
-use argument::ROOM;
-use argument::argument;
 use argument::svid_asked;
-use input::FRONT;
-use input::Input;
-use input::read_front_of;
-use printing::print_named;
+use files::argument::ROOM;
+use files::argument::argument;
+use files::input::FRONT;
+use files::input::Input;
+use files::input::read_named;
+use files::naming::print_named;
 use printing::print_usage;
 use showing::show;
 use streams::input::first_bytes;
@@ -26,16 +25,12 @@ const NAME: usize = 1;
 const SVID: usize = 2;
 
 fn show_file(asked: Asked) {
-    let mut buffer = [0u8; ROOM];
-    let room: &mut [u8] = &mut buffer;
-    let length = argument(NAME, room);
-    let name = first_bytes(room, length);
     let mut bytes = [0u8; FRONT];
     let front: &mut [u8] = &mut bytes;
-    match read_front_of(name, front) {
-        Input::Read(end) => show(first_bytes(front, end), asked),
-        Input::Failed => print_named(b"cannot read ", name),
-    }
+    let Input::Read(end) = read_named(NAME, front) else {
+        return;
+    };
+    show(first_bytes(front, end), asked);
 }
 
 fn show_svid_of_file() {

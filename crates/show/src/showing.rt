@@ -1,10 +1,10 @@
 // What is shown of a file: it is judged whole before the first line is printed.
 use crate::argument::Asked;
-use crate::printing::print_fault;
 use crate::printing::print_identity;
-use crate::printing::print_refused;
-use crate::printing::print_sound;
 use crate::printing::print_svid;
+use files::verdict::print_counts;
+use files::verdict::print_fault;
+use files::verdict::print_refused;
 use laptop::RUN_WORDS;
 use messages::first_objects;
 use rebuilding::Rebuilt;
@@ -46,12 +46,12 @@ fn show_all(
 ) {
     print_identity(first_objects(identity, rebuilt.extent));
     show_svids(bytes, svids, rebuilt.count);
-    print_sound(rebuilt.count, rebuilt.modes);
+    print_counts(b"sound, ", rebuilt.count, rebuilt.modes);
 }
 
 fn show_one(bytes: &[u8], rebuilt: Rebuilt, svid: u16) {
     if show_svid(bytes, svid) {
-        print_sound(rebuilt.count, rebuilt.modes);
+        print_counts(b"sound, ", rebuilt.count, rebuilt.modes);
     }
 }
 
@@ -62,7 +62,7 @@ pub fn show(bytes: &[u8], asked: Asked) {
     let mut run = [0u32; RUN_WORDS];
     let rebuilt = read_catalogue(bytes, &mut svids, &mut modes, &mut identity, &mut run);
     if rebuilt.refusal != 0 {
-        print_fault(rebuilt.refusal, rebuilt.at);
+        print_fault(b"refused ", rebuilt.refusal, rebuilt.at);
         return;
     }
     match asked {

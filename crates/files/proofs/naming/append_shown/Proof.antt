@@ -1,11 +1,11 @@
--- `show::printing::append_shown` is safe and ends. The line keeps its length, and the measure is what is left of the text.
+-- `files::naming::append_shown` is safe and ends. The line keeps its length, and the measure is what is left of the text.
 -- Assumes nothing.
 use Prim.Native.Nat.{_-_}
 use lib.ListN.{length}
 use mathlib.Core.Path.{_≡_}
 use borrow.Author.Needs.{needs}
-use Rattle.show.proofs.printing.append_shown.Statement.{statement}
-use Rattle.show.proofs.printing.append_shown.Tie as tie
+use Rattle.files.proofs.naming.append_shown.Statement.{statement}
+use Rattle.files.proofs.naming.append_shown.Tie as tie
 
 abbrev Inv-loop : tie.InvT-loop
 Inv-loop line₀ at text end₀ index₀ line end index = length line ≡ length line₀

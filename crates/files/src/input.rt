@@ -1,8 +1,12 @@
 // The front of a file or of standard input, with a read that fails told from the end.
+use crate::argument::ROOM;
+use crate::argument::argument;
+use crate::naming::print_named;
 use libc::STDIN_FILENO;
+use streams::input::first_bytes;
 
-// How much of a file is read: what lies behind these bytes cannot change what is found, proved as `front-decides` in
-// crates/catalogue_laws/proofs/Front.antt.
+// How much of a file is read: what lies behind these bytes cannot change what is found, nor what is mended, proved as `front-decides` in
+// crates/catalogue_laws/proofs/Front.antt and `front-mended` in crates/mending/proofs/Laws.antt.
 pub const FRONT: usize = 2426;
 
 // The number of bytes that were read, fewer than FRONT only where the input ended.
@@ -27,15 +31,16 @@ fn read_front(descriptor: i32, front: &mut [u8]) -> Input {
     Input::Read(end)
 }
 
-fn is_standard_input(name: &[u8]) -> bool {
+// The name that stands for standard input.
+pub fn is_dash(name: &[u8]) -> bool {
     if name.len() == 1 {
         return name[0] == b'-';
     }
     false
 }
 
-pub fn read_front_of(name: &[u8], front: &mut [u8]) -> Input {
-    if is_standard_input(name) {
+fn read_front_of(name: &[u8], front: &mut [u8]) -> Input {
+    if is_dash(name) {
         return read_front(STDIN_FILENO, front);
     }
     let descriptor = os::open_read(name);
@@ -44,5 +49,19 @@ pub fn read_front_of(name: &[u8], front: &mut [u8]) -> Input {
     }
     let input = read_front(descriptor, front);
     libc::close(descriptor);
+    input
+}
+
+// The front of the file that an argument names. A line says where it cannot be read.
+pub fn read_named(index: usize, front: &mut [u8]) -> Input {
+    let mut buffer = [0u8; ROOM];
+    let room: &mut [u8] = &mut buffer;
+    let length = argument(index, room);
+    let name = first_bytes(room, length);
+    let input = read_front_of(name, front);
+    match input {
+        Input::Failed => print_named(b"cannot read ", name),
+        _ => {}
+    }
     input
 }

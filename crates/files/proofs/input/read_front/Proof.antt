@@ -1,11 +1,11 @@
--- `show::input::read_front` is safe and ends. The front keeps its length, and the measure is how much of it is left to read.
+-- `files::input::read_front` is safe and ends. The front keeps its length, and the measure is how much of it is left to read.
 -- Assumes nothing.
 use Prim.Native.Nat.{_-_, _≤_}
 use lib.ListN.{length}
 use mathlib.Core.Path.{_≡_}
 use borrow.Author.Needs.{needs}
-use Rattle.show.proofs.input.read_front.Statement.{statement}
-use Rattle.show.proofs.input.read_front.Tie as tie
+use Rattle.files.proofs.input.read_front.Statement.{statement}
+use Rattle.files.proofs.input.read_front.Tie as tie
 
 abbrev Inv-loop : tie.InvT-loop
 Inv-loop descriptor front₀ end₀ front end = (length front ≡ length front₀) × (end ≤ length front₀)

@@ -122,7 +122,7 @@ static unsigned write_catalogue(void) {
                            part_of(2, CONTROLLER_CATALOGUE_BYTES), &l->catalogue_length);
 }
 
-/* Reading a catalogue's bytes. */
+/* Reading and mending a catalogue's bytes. */
 
 static unsigned read_catalogue(void) {
     struct reader *r = &lent.reader;
@@ -134,6 +134,12 @@ static unsigned find_stretch(void) {
     struct reader *r = &lent.reader;
     controller_count count = take_bytes(2, r->bytes);
     return catalogue_stretch(r->bytes, count, hex(1), &r->length);
+}
+
+static unsigned mend(void) {
+    struct reader *r = &lent.reader;
+    controller_count count = take_bytes(2, r->bytes);
+    return catalogue_mend(r->bytes, count, r->mended, part_of(1, MENDED_BYTES), r->kept);
 }
 
 /* What the steps set between calls. */
@@ -213,6 +219,7 @@ static const struct step STEPS[] = {
     {"catalogue_write", write_catalogue, show_catalogue},
     {"catalogue_read", read_catalogue, show_reading},
     {"catalogue_stretch", find_stretch, show_stretch},
+    {"catalogue_mend", mend, show_mending},
     {"room", set_room, show_set},
     {"runs", set_runs, show_set},
     {"stray", stray, show_set},

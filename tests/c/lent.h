@@ -8,7 +8,10 @@
 /* What stands in each byte that a call hands over in, before the call. */
 #define UNWRITTEN 0xA5
 
-/* A catalogue's bytes, and what they are read into. */
+/* More than any mended file has. */
+#define MENDED_BYTES (CONTROLLER_CATALOGUE_BYTES + 8)
+
+/* A catalogue's bytes, and what they are read and mended into. */
 struct reader {
     uint8_t bytes[MOST_BYTES];
     uint16_t svids[CONTROLLER_SVIDS];
@@ -17,6 +20,8 @@ struct reader {
     uint32_t run[CONTROLLER_RUN_WORDS];
     uint16_t sizes[CONTROLLER_SIZES];
     uint16_t length;
+    uint8_t mended[MENDED_BYTES];
+    uint16_t kept[CONTROLLER_KEPT];
 };
 
 struct lent {

@@ -89,6 +89,8 @@ static const struct part {
     PART("read_run", reader, run),
     PART("sizes", reader, sizes),
     PART("stretch_length", reader, length),
+    PART("mended", reader, mended),
+    PART("kept", reader, kept),
 #undef PART
 };
 
@@ -167,16 +169,19 @@ static void print_numbers(const char *name, int digits, const uint32_t *numbers,
         else if (numbers[i] != 0) printf(", %s %d is %0*X", name, i, digits, (unsigned)numbers[i]);
 }
 
+static void print_refusal_at(unsigned result) {
+    printf("refused %u, offset %u", CONTROLLER_REFUSAL(result), CONTROLLER_OFFSET(result));
+    print_changes();
+}
+
 /* Whether a call that reads was accepted, and its offset. */
 static int print_read(unsigned result) {
-    unsigned refusal = CONTROLLER_REFUSAL(result), offset = CONTROLLER_OFFSET(result);
-    if (refusal == CONTROLLER_ACCEPTED) {
-        printf("accepted, offset %u", offset);
-        return 1;
+    if (CONTROLLER_REFUSAL(result) != CONTROLLER_ACCEPTED) {
+        print_refusal_at(result);
+        return 0;
     }
-    printf("refused %u, offset %u", refusal, offset);
-    print_changes();
-    return 0;
+    printf("accepted, offset %u", CONTROLLER_OFFSET(result));
+    return 1;
 }
 
 void show_reading(unsigned result) {
@@ -199,6 +204,28 @@ void show_stretch(unsigned result) {
     if (!print_read(result)) return;
     printf(", length %u, bytes ", r->length);
     for (uint32_t i = 0; i < r->length; i++) printf("%02X", r->bytes[CONTROLLER_OFFSET(result) + i]);
+}
+
+/* Whether there is a mended file. A sound one has no offset. */
+static int print_outcome(unsigned result) {
+    unsigned number = CONTROLLER_REFUSAL(result);
+    if (result == CONTROLLER_ACCEPTED) printf("sound");
+    else if (CONTROLLER_UNKNOWN_KIND <= number && number <= CONTROLLER_BYTES_AFTER_END) printf("partial %u, offset %u", number, CONTROLLER_OFFSET(result));
+    else {
+        print_refusal_at(result);
+        return 0;
+    }
+    return 1;
+}
+
+/* The bytes past the file have to be as they were. */
+void show_mending(unsigned result) {
+    const struct reader *r = &lent.reader;
+    if (!print_outcome(result)) return;
+    printf(", kept %u %u %u, bytes ", r->kept[CONTROLLER_KEPT_COUNT], r->kept[CONTROLLER_KEPT_MODES], r->kept[CONTROLLER_KEPT_LENGTH]);
+    for (unsigned i = 0; i < MENDED_BYTES; i++)
+        if (i < r->kept[CONTROLLER_KEPT_LENGTH]) printf("%02X", r->mended[i]);
+        else if (r->mended[i] != UNWRITTEN) printf(", writes byte %u of the buffer", i);
 }
 
 void show_fresh_dock(unsigned refusal) {

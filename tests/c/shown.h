@@ -7,6 +7,7 @@ void show_laptop(unsigned refusal);
 void show_catalogue(unsigned refusal);
 void show_reading(unsigned result);
 void show_stretch(unsigned result);
+void show_mending(unsigned result);
 void show_fresh_dock(unsigned refusal);
 void show_fresh_laptop(unsigned refusal);
 void show_report(unsigned entered);

@@ -1,8 +1,9 @@
 //! Reading a catalogue file (02, R-1): its records are walked from the front, one at a time, up to
-//! the first fault; only a sound file is rebuilt.
+//! the first fault; only a sound file is rebuilt. What stands before a fault can be mended.
 
 mod gathered;
 mod lent;
+mod mended;
 
 use crate::catalogue::{Catalogue, RUN_WORDS};
 use crate::record::Record;
@@ -11,6 +12,7 @@ use std::ops::Range;
 
 pub use gathered::{Disorder, Gathered};
 pub use lent::{Lent, Sizes};
+pub use mended::{mend, Kept, Mended};
 
 /// A refusal, and where the walk stands with it: at the start of the record that is at fault. One
 /// that is no fault of the file has the offset 0.

@@ -22,3 +22,4 @@ pub const UNKNOWN_KIND: u8 = 15;
 pub const CUT_RECORD: u8 = 16;
 pub const OUT_OF_ORDER: u8 = 17;
 pub const BYTES_AFTER_END: u8 = 18;
+pub const NO_IDENTITY: u8 = 19;

@@ -22,6 +22,7 @@ mod link;
 mod link_editions;
 mod link_events;
 mod link_sides;
+mod mending;
 mod messages;
 mod pages;
 mod partner;

@@ -9,6 +9,9 @@ use second::catalogue_files::{Asked, File};
 const UNWRITTEN: &str = "F3D770A5 8669B105 85B68265 5F29F345";
 /// The same after case L's catalogue, with that mode at the front of the run.
 const CASE_L_READ: &str = "9BD10D23 237EE6E1 FF6DF644 0FDC1314";
+/// Of the second buffer, when no byte of it is written, and with case L's catalogue in it.
+const UNMENDED: &str = "5132EDAD";
+const CASE_L_MENDED: &str = "7DC6A537";
 const NOTHING: [u8; 5] = [2, 0, 0, 0, 0];
 
 fn answers(mut stream: &[u8]) -> String {
@@ -17,9 +20,14 @@ fn answers(mut stream: &[u8]) -> String {
     String::from_utf8(output).unwrap()
 }
 
+/// With room enough for any mended file.
 fn catalogue(words: u16, svid: u16, bytes: &[u8]) -> Vec<u8> {
-    let [words, svid, length] = [words, svid, bytes.len() as u16].map(u16::to_le_bytes);
-    [&[1], &words[..], &svid, &length, bytes].concat()
+    catalogue_in(words, svid, 2402, bytes)
+}
+
+fn catalogue_in(words: u16, svid: u16, room: u16, bytes: &[u8]) -> Vec<u8> {
+    let numbers = [words, svid, room, bytes.len() as u16].map(u16::to_le_bytes);
+    [&[1], &numbers.concat()[..], bytes].concat()
 }
 
 fn record(offset: u16, bytes: &[u8]) -> Vec<u8> {
@@ -47,6 +55,13 @@ fn the_digests_are_those_of_the_four_lent_parts() {
 }
 
 #[test]
+fn the_digest_of_mending_is_that_of_2410_bytes() {
+    assert_eq!(fnv([0xEE; 2410]), UNMENDED);
+    let written = CASE_L.into_iter().chain([0xEE; 2388]);
+    assert_eq!(fnv(written), CASE_L_MENDED);
+}
+
+#[test]
 fn every_form_of_line_about_a_catalogue_is_as_agreed() {
     let more = [&CASE_L[..], &[0]].concat();
     let stream = [
@@ -59,16 +74,19 @@ fn every_form_of_line_about_a_catalogue_is_as_agreed() {
         catalogue(432, 0xFF01, &[0x00]),
         catalogue(432, 0xFF01, &more),
     ];
+    let sound = format!("mend 0 sound 0 0 1 1 22 {CASE_L_MENDED}");
+    let no_identity = format!("mend 19 - 0 0 0 0 0 {UNMENDED}");
+    let identity_alone = fnv(CASE_L[..13].iter().copied().chain([0]).chain([0xEE; 2396]));
     let expected = format!(
         "file answer\n\
-        1 read 0 22 3 1 1 {CASE_L_READ} stretch 0 16 2005040000\n\
-        2 read 0 22 3 1 1 {CASE_L_READ} stretch 12 0 -\n\
-        3 read 11 0 0 0 0 {UNWRITTEN} stretch 0 16 2005040000\n\
-        4 read 11 0 0 0 0 {UNWRITTEN} stretch 16 0 -\n\
-        5 read 16 16 0 0 0 {UNWRITTEN} stretch 16 16 -\n\
-        6 read 15 0 0 0 0 {UNWRITTEN} stretch 15 0 -\n\
-        7 read 17 0 0 0 0 {UNWRITTEN} stretch 17 0 -\n\
-        8 read 18 22 0 0 0 {UNWRITTEN} stretch 18 22 -\n\
+        1 read 0 22 3 1 1 {CASE_L_READ} stretch 0 16 2005040000 {sound}\n\
+        2 read 0 22 3 1 1 {CASE_L_READ} stretch 12 0 - {sound}\n\
+        3 read 11 0 0 0 0 {UNWRITTEN} stretch 0 16 2005040000 {sound}\n\
+        4 read 11 0 0 0 0 {UNWRITTEN} stretch 16 0 - {no_identity}\n\
+        5 read 16 16 0 0 0 {UNWRITTEN} stretch 16 16 - mend 0 partial 16 16 0 0 14 {identity_alone}\n\
+        6 read 15 0 0 0 0 {UNWRITTEN} stretch 15 0 - {no_identity}\n\
+        7 read 17 0 0 0 0 {UNWRITTEN} stretch 17 0 - {no_identity}\n\
+        8 read 18 22 0 0 0 {UNWRITTEN} stretch 18 22 - mend 0 partial 18 22 1 1 22 {CASE_L_MENDED}\n\
         end 8 files\n"
     );
     assert_eq!(answers(&stream.concat()), expected);
@@ -97,6 +115,34 @@ fn every_form_of_line_about_a_record_is_as_agreed() {
         8 record 16\n\
         end 8 files\n";
     assert_eq!(answers(&stream.concat()), expected);
+}
+
+/// What the one file of the stream is answered behind `mend`.
+fn mended(room: u16, bytes: &[u8]) -> String {
+    let line = answers(&catalogue_in(0, 0, room, bytes));
+    let line = line.lines().nth(1).unwrap();
+    let (_, mended) = line.split_once(" mend ").unwrap();
+    mended.to_string()
+}
+
+#[test]
+fn a_file_is_mended_into_so_much_room() {
+    let refused = format!("11 - 0 0 0 0 0 {UNMENDED}");
+    for room in [0, 1, 13, 21] {
+        assert_eq!(mended(room, &CASE_L), refused);
+        assert_eq!(mended(room, &CASE_L[..21]), refused);
+    }
+    for room in [22, 23, 2402, 2409, 2410, 2411, u16::MAX] {
+        let sound = format!("0 sound 0 0 1 1 22 {CASE_L_MENDED}");
+        assert_eq!(mended(room, &CASE_L), sound);
+        let partial = format!("0 partial 16 21 1 1 22 {CASE_L_MENDED}");
+        assert_eq!(mended(room, &CASE_L[..21]), partial);
+    }
+    for room in [0, 1, 2402, u16::MAX] {
+        let refused = format!("19 - 0 0 0 0 0 {UNMENDED}");
+        assert_eq!(mended(room, &[]), refused);
+        assert_eq!(mended(room, &CASE_L[..12]), refused);
+    }
 }
 
 #[test]
@@ -181,9 +227,32 @@ fn runs_of_every_length_are_lent() {
     }
 }
 
+/// Rooms around the length that comes out and around the most that is lent, for a sound file, one
+/// without its end, and no bytes.
+#[test]
+fn rooms_of_every_sort_are_lent() {
+    let files = generate(1).into_iter();
+    let lent: Vec<(u16, Vec<u8>)> = files
+        .filter_map(|file| match file.asked {
+            Asked::Catalogue { room, .. } => Some((room, file.bytes)),
+            Asked::Record { .. } => None,
+        })
+        .collect();
+    for room in [0, 1, 2401, 2402, 2403, 2409, 2410, 2411, u16::MAX] {
+        assert!(lent.contains(&(room, Vec::new())));
+        assert!(lent.contains(&(room, CASE_L.to_vec())));
+        assert!(lent.contains(&(room, CASE_L[..21].to_vec())));
+    }
+    for room in [21, 22, 23] {
+        assert!(lent.contains(&(room, CASE_L.to_vec())));
+        assert!(lent.contains(&(room, CASE_L[..21].to_vec())));
+    }
+}
+
 /// Twelve refusals, eight orders, five that meet, four identities, four lists, all modes, six
-/// stretches and eight records.
+/// stretches and eight records; of mending four of sound files, sixteen of partial ones, six of 11
+/// and six of 19.
 #[test]
 fn nothing_counted_is_everything_missing() {
-    assert_eq!(Tally::default().missing().len(), 48);
+    assert_eq!(Tally::default().missing().len(), 48 + 32);
 }

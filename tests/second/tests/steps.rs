@@ -219,6 +219,74 @@ fn bytes_that_are_refused_show_the_offset() {
 }
 
 #[test]
+fn a_mended_catalogue_is_shown_whole() {
+    let identity = "03 11112222 00000000 FFFFFFFF";
+    let svid = format!("{identity} 10 FF01");
+    let whole = "kept 1 1 22, bytes 032222111100000000FFFFFFFF1001FF200504000000";
+    let alone = "kept 0 0 14, bytes 032222111100000000FFFFFFFF00";
+    let answers = [
+        (
+            format!("22 {svid} 20 00000405 00"),
+            format!("sound, {whole}"),
+        ),
+        (
+            format!("2410 {svid} 20 00000405 00"),
+            format!("sound, {whole}"),
+        ),
+        (format!("14 {identity} 00"), format!("sound, {alone}")),
+        (
+            format!("22 {svid} 20 00000405"),
+            format!("partial 16, offset 21, {whole}"),
+        ),
+        (
+            format!("2402 {svid} 20 000405"),
+            format!("partial 16, offset 16, {alone}"),
+        ),
+        (
+            format!("14 {identity} 10 01"),
+            format!("partial 16, offset 13, {alone}"),
+        ),
+        (
+            format!("2402 {svid} 21 20 00000405 00"),
+            format!("partial 15, offset 16, {alone}"),
+        ),
+        (
+            format!("2402 {svid} 00"),
+            format!("partial 17, offset 16, {alone}"),
+        ),
+        (
+            format!("2402 {svid} 20 00000405 00 00"),
+            format!("partial 18, offset 22, {whole}"),
+        ),
+    ];
+    for (words, answer) in answers {
+        let step = format!("catalogue_mend {words}");
+        assert_eq!(printed(&step), [format!("{step}: {answer}")]);
+    }
+}
+
+#[test]
+fn bytes_that_are_not_mended_show_the_refusal() {
+    let identity = "03 00000001 00000002 00000003";
+    let answers = [
+        ("2402".to_string(), 19),
+        ("0".to_string(), 19),
+        ("0 21".to_string(), 19),
+        ("2402 00".to_string(), 19),
+        ("2402 03 00000001 00000002 000003".to_string(), 19),
+        (format!("2402 10 FF01 {identity} 00"), 19),
+        (format!("13 {identity} 00"), 11),
+        (format!("13 {identity}"), 11),
+        (format!("0 {identity} 00 00"), 11),
+    ];
+    for (words, refusal) in answers {
+        let step = format!("catalogue_mend {words}");
+        let line = format!("{step}: refused {refusal}, offset 0, changed nothing");
+        assert_eq!(printed(&step), [line]);
+    }
+}
+
+#[test]
 fn again_makes_the_last_two_steps_so_many_times_more() {
     let steps = "dock_message FF00A002\ndock_sent\nlaptop_next 1\nlaptop_response_timer\nagain 3\nlaptop_next 1\n";
     let lines = printed(steps);
@@ -238,6 +306,8 @@ fn an_unknown_step_is_an_error() {
         "runs 432 432\n",
         "catalogue_read\n",
         "catalogue_stretch\n",
+        "catalogue_mend\n",
+        "catalogue_mend 2411\n",
         "catalogue_find 432\n",
     ] {
         assert!(print_lines(&mut steps.as_bytes(), &mut Vec::new()).is_err());

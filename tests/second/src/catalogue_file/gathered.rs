@@ -109,6 +109,20 @@ impl Gathered {
         named.map(|listed| listed.stretch)
     }
 
+    /// The records of the sound file that keeps most of these: without a last SVID that has no
+    /// modes, and with an end. Nothing without an identity.
+    pub(super) fn into_sound(self) -> Option<Vec<Record>> {
+        let mut records = vec![Record::Identity(self.identity?)];
+        for listed in self.listed {
+            if !listed.modes.is_empty() {
+                records.push(Record::Svid(listed.svid));
+                records.extend(listed.modes.into_iter().map(Record::Mode));
+            }
+        }
+        records.push(Record::End);
+        Some(records)
+    }
+
     /// The catalogue of a sound file, its modes stored in the run.
     pub(super) fn rebuild(self, run: &mut [u32]) -> Catalogue {
         let mut catalogue = Catalogue::of_identity(&self.identity.unwrap_or_default());

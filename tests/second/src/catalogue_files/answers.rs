@@ -1,8 +1,8 @@
 //! Answers a stream of catalogue files, a line each.
 
-use super::file::WHOLE_RUN;
+use super::file::{WHOLE_ROOM, WHOLE_RUN};
 use super::{Asked, File};
-use crate::catalogue_file::{stretch, Lent, Sizes};
+use crate::catalogue_file::{mend, stretch, Kept, Lent, Mended, Refused, Sizes};
 use crate::digest;
 use crate::fields::NOTHING;
 use crate::record::Record;
@@ -12,6 +12,11 @@ use std::io::{self, BufRead, Write};
 
 /// What every byte that is lent holds before a file.
 const UNWRITTEN: u8 = 0xEE;
+/// Stands for the fault where none is named.
+const NO_FAULT: Refused = Refused {
+    refusal: ACCEPTED,
+    offset: 0,
+};
 
 pub fn print_answers(input: &mut impl BufRead, output: &mut impl Write) -> io::Result<()> {
     writeln!(output, "file answer")?;
@@ -24,10 +29,12 @@ pub fn print_answers(input: &mut impl BufRead, output: &mut impl Write) -> io::R
 fn print_answer(number: usize, file: &File, output: &mut impl Write) -> io::Result<()> {
     write!(output, "{number} ")?;
     match file.asked {
-        Asked::Catalogue { words, svid } => {
+        Asked::Catalogue { words, svid, room } => {
             print_reading(&file.bytes, words, output)?;
             write!(output, " ")?;
             print_stretch(&file.bytes, svid, output)?;
+            write!(output, " ")?;
+            print_mending(&file.bytes, room, output)?;
         }
         Asked::Record { offset } => print_record(&file.bytes, offset, output)?,
     }
@@ -67,6 +74,27 @@ fn print_stretch(bytes: &[u8], svid: u16, output: &mut impl Write) -> io::Result
             write!(output, "stretch {refusal} {offset} {NOTHING}")
         }
     }
+}
+
+fn print_mending(bytes: &[u8], room: u16, output: &mut impl Write) -> io::Result<()> {
+    let mut out = [UNWRITTEN; WHOLE_ROOM as usize];
+    let room = usize::from(room.min(WHOLE_ROOM));
+    let (refusal, name, fault, kept) = match mend(bytes, &mut out[..room]) {
+        Ok(Mended::Sound(kept)) => (ACCEPTED, "sound", NO_FAULT, kept),
+        Ok(Mended::Partial { fault, kept }) => (ACCEPTED, "partial", fault, kept),
+        Err(refusal) => (refusal, NOTHING, NO_FAULT, Kept::default()),
+    };
+    let Kept {
+        svids,
+        modes,
+        length,
+    } = kept;
+    let (number, offset) = (fault.refusal, fault.offset);
+    let digest = digest::of_bytes(&out);
+    write!(
+        output,
+        "mend {refusal} {name} {number} {offset} {svids} {modes} {length} {digest:08X}"
+    )
 }
 
 fn print_record(bytes: &[u8], offset: u16, output: &mut impl Write) -> io::Result<()> {

@@ -9,6 +9,7 @@ const RECORD: u8 = 0x02;
 /// A greater number in the stream counts as this one.
 pub const MOST_FILE_BYTES: u16 = 4096;
 pub const WHOLE_RUN: u16 = 440;
+pub const WHOLE_ROOM: u16 = 2410;
 
 #[derive(Clone, Debug, PartialEq, Eq)]
 pub struct File {
@@ -20,8 +21,9 @@ pub struct File {
 
 #[derive(Clone, Copy, Debug, PartialEq, Eq)]
 pub enum Asked {
-    /// The catalogue, with a run of so many words, and the stretch of the SVID.
-    Catalogue { words: u16, svid: u16 },
+    /// The catalogue, with a run of so many words, the stretch of the SVID, and the mended file,
+    /// with room for so many bytes.
+    Catalogue { words: u16, svid: u16, room: u16 },
     /// The record at the offset.
     Record { offset: u16 },
 }
@@ -41,6 +43,7 @@ impl File {
             CATALOGUE => Asked::Catalogue {
                 words: take_number(input)?,
                 svid: take_number(input)?,
+                room: take_number(input)?,
             },
             RECORD => Asked::Record {
                 offset: take_number(input)?,
@@ -58,19 +61,24 @@ impl File {
 
     pub fn put(&self, output: &mut impl Write) -> io::Result<()> {
         match self.asked {
-            Asked::Catalogue { words, svid } => {
+            Asked::Catalogue { words, svid, room } => {
                 output.write_all(&[CATALOGUE])?;
-                output.write_all(&words.to_le_bytes())?;
-                output.write_all(&svid.to_le_bytes())?;
+                put_numbers(&[words, svid, room], output)?;
             }
             Asked::Record { offset } => {
                 output.write_all(&[RECORD])?;
-                output.write_all(&offset.to_le_bytes())?;
+                put_numbers(&[offset], output)?;
             }
         }
-        output.write_all(&self.length.to_le_bytes())?;
+        put_numbers(&[self.length], output)?;
         output.write_all(&self.bytes)
     }
+}
+
+fn put_numbers(numbers: &[u16], output: &mut impl Write) -> io::Result<()> {
+    numbers
+        .iter()
+        .try_for_each(|number| output.write_all(&number.to_le_bytes()))
 }
 
 fn take_number(input: &mut impl Read) -> Result<u16, Stop> {

@@ -9,6 +9,7 @@ mod kinds;
 mod lent;
 mod order;
 mod records;
+mod rooms;
 mod sound;
 mod stretches;
 
@@ -33,6 +34,8 @@ const CASE_L_END: usize = 21;
 
 struct Generator {
     random: Random,
+    /// Draws the rooms alone, so that they change no other draw.
+    room_random: Random,
     files: Vec<File>,
 }
 
@@ -40,6 +43,7 @@ struct Generator {
 pub fn generate(seed: u64) -> Vec<File> {
     let mut generator = Generator {
         random: Random::from_seed(seed),
+        room_random: Random::from_seed(!seed),
         files: Vec::new(),
     };
     generator.sound_files();
@@ -53,6 +57,7 @@ pub fn generate(seed: u64) -> Vec<File> {
     generator.stretches();
     generator.records();
     generator.drawn();
+    generator.rooms();
     generator.files
 }
 
@@ -75,7 +80,8 @@ impl Generator {
     }
 
     fn read_with(&mut self, words: u16, svid: u16, bytes: Vec<u8>) {
-        let asked = Asked::Catalogue { words, svid };
+        let room = self.room_for(&bytes);
+        let asked = Asked::Catalogue { words, svid, room };
         self.files.push(File::of(asked, bytes));
     }
 

@@ -1,6 +1,8 @@
 //! Counts what a stream of catalogue files reaches, and tells what it never reaches.
 
-use super::file::WHOLE_RUN;
+mod mending;
+
+use super::file::{WHOLE_ROOM, WHOLE_RUN};
 use super::{Asked, File};
 use crate::catalogue::{LEAST_OBJECTS, MOST_MODES, RUN_WORDS};
 use crate::catalogue_file::{stretch, walk, Disorder, Gathered, Lent, Refused, Sizes};
@@ -44,9 +46,10 @@ pub struct Tally {
 impl Tally {
     pub fn count(&mut self, file: &File) {
         match file.asked {
-            Asked::Catalogue { words, svid } => {
+            Asked::Catalogue { words, svid, room } => {
                 self.count_reading(&file.bytes, words);
                 self.count_stretch(&file.bytes, svid);
+                self.count_mending(&file.bytes, room);
             }
             Asked::Record { offset } => self.count_record(&file.bytes, usize::from(offset)),
         }
@@ -124,6 +127,13 @@ impl Tally {
         }
     }
 
+    fn count_mending(&mut self, bytes: &[u8], room: u16) {
+        let room = usize::from(room.min(WHOLE_ROOM));
+        for name in mending::reached(bytes, room) {
+            self.counts.add(name);
+        }
+    }
+
     fn count_record(&mut self, bytes: &[u8], offset: usize) {
         let answer = match Record::at(bytes, offset) {
             Ok(Some((Record::Identity(_), _))) => "identity".to_string(),
@@ -180,6 +190,7 @@ fn names() -> Vec<String> {
         .chain([RUN_WORDS].map(modes))
         .chain((1..=MOST_MODES).map(stretch_of))
         .chain(records.chain(refused).map(|answer| record(&answer)))
+        .chain(mending::names())
         .collect()
 }
 

@@ -3,6 +3,7 @@
 
 mod dock_end;
 mod laptop_end;
+mod mender;
 mod reader;
 mod words;
 
@@ -43,6 +44,7 @@ impl Ends {
             "stray" => Ok("set".to_string()),
             "catalogue_read" => reader::read(words),
             "catalogue_stretch" => reader::find_stretch(words),
+            "catalogue_mend" => mender::mend_file(words),
             name if name.starts_with("dock_") => self.dock.take(name, words, self.room),
             name => self.laptop.take(name, words, self.room),
         }

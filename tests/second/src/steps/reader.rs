@@ -39,7 +39,7 @@ pub fn find_stretch(words: &mut Words) -> Line {
     })
 }
 
-fn refused_at(refused: Refused, parts: &[(&str, bool)]) -> String {
+pub fn refused_at(refused: Refused, parts: &[(&str, bool)]) -> String {
     let Refused { refusal, offset } = refused;
     format!("refused {refusal}, offset {offset}, {}", changed(parts))
 }

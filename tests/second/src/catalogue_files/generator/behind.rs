@@ -52,12 +52,14 @@ impl Generator {
     /// The most bytes that are read off the stream, also where it says that there are more.
     fn up_to_the_most(&mut self, bytes: &[u8]) {
         for length in [MOST_FILE_BYTES, MOST_FILE_BYTES + 1, u16::MAX] {
-            let asked = Asked::Catalogue {
-                words: u16::MAX,
-                svid: self.svid_for(bytes),
-            };
+            let svid = self.svid_for(bytes);
             let mut bytes = bytes.to_vec();
             bytes.resize(ROOM, END_KIND);
+            let asked = Asked::Catalogue {
+                words: u16::MAX,
+                svid,
+                room: self.room_for(&bytes),
+            };
             self.files.push(File {
                 asked,
                 length,

@@ -93,12 +93,13 @@ use Rattle.stretches.specs.Stretches.{stretchIn}
 use Rattle.stretches.proofs.Laws.{not-listed-exactly}
 use Rattle.mending.specs.Beginning.{BeginningOf}
 use Rattle.mending.specs.Mending.{keptOf, keptBytes, mendRefusal, reportOf, mendingOf}
+use Rattle.mending.specs.Words.{AtFront}
 use Rattle.mending.specs.declared.Mended.the-variants.{Refused as Mended·Refused}
 use Rattle.mending.specs.declared.Mended.the-variants.{Sound as Mended·Sound}
 use Rattle.mending.specs.declared.keeping.Kept.{Kept as Mending·Kept}
 use Rattle.mending.proofs.Cutting.{cut-begins, nothing-behind}
 use Rattle.mending.proofs.Front.{kept-before, kept-front}
-use Rattle.mending.proofs.Fronts.{AtFront, identity-exactly, refused-19-exactly, refused-11-exactly}
+use Rattle.mending.proofs.Fronts.{identity-exactly, refused-19-exactly, refused-11-exactly}
 use Rattle.mending.proofs.Laws.{sound-mended, mended-again, report-true, only-sound, front-mended}
 use Rattle.mending.proofs.Outcomes.{mending-refused}
 use Rattle.mending.proofs.Within.{mended-accepted}

@@ -28,6 +28,7 @@ use Rattle.catalogue_laws.specs.Words.{Wrong}
 use Rattle.catalogue_laws.specs.Words.Wrong.{identity-again, svid-first, mode-without-svid}
 use Rattle.catalogue_laws.proofs.Words.{right-exactly}
 use Rattle.mending.specs.Mending.{noIdentity, shortBuffer, keptBytes, mendRefusal}
+use Rattle.mending.specs.Words.{AtFront}
 use Rattle.mending.proofs.Front.{stood}
 use Rattle.mending.proofs.Growing.{passed-grows}
 use Rattle.mending.proofs.Laws.{Goes, none, short, goes}
@@ -69,11 +70,6 @@ nothing-passed {bytes} (behind {at} {c} p (Identity objects) n found right more)
 nothing-passed (behind {at} {c} p (Svid number) n found right more) e = absurd (right (svid-first number e))
 nothing-passed (behind {at} {c} p (Mode word) n found right more) e = absurd (right (mode-without-svid word (nothing-passed p e .1)))
 nothing-passed (behind {at} {c} p End n found right more) e = absurd (false≢true (sym more))
-
-pub record AtFront (bytes : List ℕ) : Type 0 where
-  pub objects : ℕ
-  pub size : ℕ
-  pub is : foundIn bytes ≡ Whole (Identity objects) size
 
 -- where there is an identity, it stands at the front
 begun-front : {bytes : List ℕ} {at : ℕ} {c : Catalogue} → Passed bytes at c → 0 < length (c .identity) → AtFront bytes

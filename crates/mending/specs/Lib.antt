@@ -3,3 +3,4 @@ pub mod Beginning
 pub mod Cases
 pub mod Keeping
 pub mod Mending
+pub mod Words

@@ -43,7 +43,7 @@ fn append_digest(line: &mut [u8], at: usize, buffer: &[u8; BUFFER]) -> usize {
 }
 
 // The mending's part of the line: what came out, and the digest of the whole buffer after the call.
-pub fn append_mending(line: &mut [u8], at: usize, bytes: &[u8], room: usize) -> usize
+pub(crate) fn append_mending(line: &mut [u8], at: usize, bytes: &[u8], room: usize) -> usize
     requires { ⌜ room ≤ 2410 ⌝ }
 {
     let mut buffer = [UNWRITTEN; BUFFER];

@@ -1,3 +1,5 @@
+#![tactic(auto)]
+
 // The dock end answers a request as policy says, at the edition that the request has set: document 01, "The dock end"; document 02, R-5. The state is that of
 // `dock`.
 ghost use Rattle.dock.specs.Dock.{give_identity, give_page, give_modes, give_other, declined, decide_policy, decide_policy_answer, Stepped};

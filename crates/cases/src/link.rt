@@ -11,7 +11,7 @@ use laptop::Candidate;
 const BUDGET: usize = 100;
 
 // The last answer of the dock and its refusal by the laptop stand beside the two ends.
-#[derive(Drop)]
+#[derive(Clone, Copy)]
 pub struct Ends {
     pub owner: Owner,
     pub dock: Dock,

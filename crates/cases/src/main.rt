@@ -1,3 +1,5 @@
+#![tactic(auto)]
+
 // Runs document 01's cases through the proved calls, and prints what each gives.
 mod dock_cases;
 mod joined_cases;

@@ -8,7 +8,7 @@ use port::{Side, seen};
 use streams::input::first_bytes;
 
 // What a call gave: the refusal number, the request to send, and the owner after it.
-#[derive(Drop)]
+#[derive(Clone, Copy)]
 pub struct Turn {
     pub refusal: u8,
     pub request: Message,

@@ -11,7 +11,7 @@ pub const IDENTITY_OBJECTS: [u32; 3] = [1, 2, 3];
 pub const MODE: u32 = 0x00000405;
 
 // What the dock sent, and the dock after it.
-#[derive(Drop)]
+#[derive(Clone, Copy)]
 pub struct Replied {
     pub answer: Message,
     pub dock: Dock,

@@ -7,7 +7,7 @@ const LONGEST: usize = 28;
 const OBJECT: usize = 4;
 
 // The message is the first bytes, so many as its length says.
-#[derive(Drop)]
+#[derive(Clone, Copy)]
 pub struct Message {
     pub bytes: [u8; LONGEST],
     pub length: usize,

@@ -1,3 +1,5 @@
+#![tactic(auto)]
+
 // The held catalogue as bytes. Document 01, "Catalogue bytes".
 ghost use Rattle.std.specs.Prelude.{◌≡◌, ◌≤◌, length};
 ghost use Rattle.std.proofs.lemmas.List.Edits.{sets};
@@ -14,7 +16,7 @@ use messages::first_objects;
 use numbers::{OBJECT_SIZE, put_number, put_words};
 
 // The refusal number, and how many bytes were written.
-#[derive(Drop)]
+#[derive(Clone, Copy)]
 pub struct Bytes {
     pub refusal: u8,
     pub length: u16,

@@ -1,3 +1,5 @@
+#![tactic(auto)]
+
 // Answers the catalogue files on standard input: each is read back and mended, or one of its records is read, and gets one line on standard output.
 mod file;
 mod mend_file;

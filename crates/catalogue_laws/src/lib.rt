@@ -1,1 +1,3 @@
+#![tactic(auto)]
+
 // What reading and writing a catalogue come to: laws alone.

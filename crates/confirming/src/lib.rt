@@ -1,3 +1,5 @@
+#![tactic(auto)]
+
 // What becomes of an answer of the dock end, "sent" or "failed": document 01, "The dock end". The state is that of `dock`.
 ghost use Rattle.std.specs.Prelude.{◌≡◌};
 ghost use Rattle.dock.specs.Dock.{moved, decide_sent, decide_failed, step_of};

@@ -1,3 +1,5 @@
+#![tactic(auto)]
+
 // Both ends for firmware in C to link: each public call of the dock, the laptop and the catalogue over numbers that the caller lends.
 //
 // A state is lent as numbers, and so is what a call hands over. Any numbers are taken; `specs/` says what an ill-formed one counts as. Each call turns

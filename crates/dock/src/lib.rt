@@ -1,3 +1,5 @@
+#![tactic(auto)]
+
 // The dock end (Responder): its state, and what every call is made of. Document 01, "The dock end". `loading` has its data, `receiving` the message that
 // arrives, `answering` policy's answer, `confirming` what becomes of it.
 mod replying;
@@ -8,7 +10,7 @@ pub use replying::{accepted, refused, send, send_bare, spoken_at, standing_at};
 pub use unloaded::fresh;
 
 // Where the dock stands: asking policy for one request, or sending an answer (true: a page of its list).
-#[derive(Drop)]
+#[derive(Clone, Copy)]
 pub enum Standing {
     Ready,
     Asking(Request),
@@ -19,7 +21,7 @@ pub enum Standing {
 // answer, which is known when ready too; and where it stands.
 // Numbers stand between the two arrays, and no gap before either: then the compiler sees that a copy of the whole has the very array that was lent, and
 // keeps no array of its own.
-#[derive(Drop)]
+#[derive(Clone, Copy)]
 pub struct Dock {
     pub identity: [u32; 6],
     pub extent: u8,
@@ -30,7 +32,7 @@ pub struct Dock {
     pub standing: Standing,
 }
 
-#[derive(Drop)]
+#[derive(Clone, Copy)]
 pub enum Policy {
     Give,
     Nak,
@@ -38,7 +40,7 @@ pub enum Policy {
 }
 
 // What a call gives back: the refusal number, how many bytes of the output buffer are to be sent, and the new state.
-#[derive(Drop)]
+#[derive(Clone, Copy)]
 pub struct Step {
     pub refusal: u8,
     pub length: u8,

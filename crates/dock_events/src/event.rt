@@ -32,7 +32,7 @@ const FIXED: usize = 5;
 const COUNT: usize = 4;
 
 // The step leaves the dock alone where the event was not answered.
-#[derive(Drop)]
+#[derive(Clone, Copy)]
 pub struct Taken {
     pub turn: Turn,
     pub step: Step,

@@ -1,3 +1,5 @@
+#![tactic(auto)]
+
 // Drives the dock end by the events on standard input: each gets one line on standard output.
 mod event;
 mod report;
@@ -20,7 +22,7 @@ const FIRST_ROOM: u8 = 28;
 const UNWRITTEN: u8 = 0x5A;
 
 // What stays from event to event.
-#[derive(Drop)]
+#[derive(Clone, Copy)]
 struct State {
     dock: Dock,
     room: u8,
@@ -28,7 +30,7 @@ struct State {
 
 // The state stands beside the turn and not in it: Rattle does not prove an enum that holds an array
 // by itself.
-#[derive(Drop)]
+#[derive(Clone, Copy)]
 struct Answer {
     turn: Turn,
     state: State,

@@ -5,7 +5,7 @@ use streams::finish::Turn;
 use streams::input::fill;
 
 // A call that was read whole, with its side, or the turn without one.
-#[derive(Drop)]
+#[derive(Clone, Copy)]
 pub enum Taken {
     Whole(Side, Call),
     Without(Turn),

@@ -7,7 +7,7 @@ use text::line::{
 // Longer than every line.
 const LONGEST: usize = 200;
 
-#[derive(Drop)]
+#[derive(Clone, Copy)]
 pub struct Line {
     bytes: [u8; LONGEST],
     length: usize,

@@ -9,7 +9,7 @@ pub const RUN: usize = 440;
 
 // What the calls for a side are lent; the names are those of the laptop's `Memory`. Of the runs so many words are lent. They stand first, where Rattle
 // finds their lengths with no proof file.
-#[derive(Drop)]
+#[derive(Clone, Copy)]
 pub struct Memory {
     pub run: [u32; RUN],
     pub held_run: [u32; RUN],
@@ -24,7 +24,7 @@ pub struct Memory {
     pub entered: [u8; 72],
 }
 
-#[derive(Drop)]
+#[derive(Clone, Copy)]
 pub struct Owner {
     pub port: Port,
     partner: Memory,
@@ -32,14 +32,14 @@ pub struct Owner {
 }
 
 // What a call gave, and the owner after it.
-#[derive(Drop)]
+#[derive(Clone, Copy)]
 pub struct Turn {
     pub step: Step,
     pub owner: Owner,
 }
 
 // What a message gave, and what its side is lent from then on.
-#[derive(Drop)]
+#[derive(Clone, Copy)]
 struct Heard {
     step: Step,
     memory: Memory,

@@ -1,3 +1,5 @@
+#![tactic(auto)]
+
 // Laptop events as bytes: document 01, "Catalogue bytes and the watcher program", and document 02, R-4. One byte of kind, then a body whose length the
 // kind fixes.
 mod calls;
@@ -12,14 +14,14 @@ use kinds::{is_known, is_message};
 use port::Side;
 
 // What *enter* and *exit* name.
-#[derive(Drop)]
+#[derive(Clone, Copy)]
 pub struct Mode {
     pub svid: u16,
     pub position: u8,
 }
 
 // An owner's call, a timer or the protocol error.
-#[derive(Drop)]
+#[derive(Clone, Copy)]
 pub enum Call {
     Next,
     StartOver,
@@ -33,14 +35,14 @@ pub enum Call {
 }
 
 // With its side, which is the partner's for a timer and the protocol error. A message has its number of objects.
-#[derive(Drop)]
+#[derive(Clone, Copy)]
 pub enum Event {
     Message(Side, u8),
     Call(Side, Call),
 }
 
 // What stands first among bytes: a whole event and the number of its bytes, the kind counted; a kind that there is not; a body that is cut.
-#[derive(Drop)]
+#[derive(Clone, Copy)]
 pub enum Found {
     Whole(Event, usize),
     Unknown,

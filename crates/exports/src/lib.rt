@@ -1,3 +1,5 @@
+#![tactic(auto)]
+
 // The proved library for Rust and C to link: thin functions on numbers and slices.
 ghost use Rattle.std.specs.Prelude.{◌≡◌};
 ghost use Rattle.messages.specs.Reading.{read_outcome};

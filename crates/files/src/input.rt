@@ -9,7 +9,7 @@ use streams::input::first_bytes;
 pub const FRONT: usize = 2426;
 
 // The number of bytes that were read, fewer than FRONT only where the input ended.
-#[derive(Drop)]
+#[derive(Clone, Copy)]
 pub enum Input {
     Read(usize),
     Failed,

@@ -1,3 +1,5 @@
+#![tactic(auto)]
+
 // The laptop end gathers the list: the answers to Identity and SVIDs. Document 01, "The laptop end". The state is that of `laptop`.
 mod gathering;
 

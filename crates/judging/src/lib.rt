@@ -1,3 +1,5 @@
+#![tactic(auto)]
+
 // A catalogue's bytes judged, record by record: sound, or the first fault from the front. Document 02, R-1.
 mod passing;
 mod walk;
@@ -16,7 +18,7 @@ pub const OUT_OF_ORDER: u8 = 17;
 pub const BYTES_AFTER_END: u8 = 18;
 
 // 0 or the number of the first fault, and the walk as it stands there, or behind the end.
-#[derive(Drop)]
+#[derive(Clone, Copy)]
 pub struct Judged {
     pub refusal: u8,
     pub walk: Walk,

@@ -7,7 +7,7 @@ use pages::{MOST_SVIDS, first_svids, is_in};
 use records::Record;
 
 // The offset, the number of identity objects (0 before the identity), of SVIDs, of the modes of the last of them, and of all modes.
-#[derive(Drop)]
+#[derive(Clone, Copy)]
 pub struct Walk {
     pub at: usize,
     pub extent: usize,

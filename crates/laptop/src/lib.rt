@@ -1,3 +1,5 @@
+#![tactic(auto)]
+
 // The laptop end (Initiator): its state, what every call is made of, and the report of entered modes. Document 01, "The laptop end". `owner` and `modes`
 // have the owner's calls, `timers` the timers, `hearing` the message that arrives.
 //
@@ -14,14 +16,14 @@ use messages::{Edition, Request};
 pub use places::{held_list, modes_number, number_at, place_of};
 
 // Nothing is awaited, or the answer to a request.
-#[derive(Drop)]
+#[derive(Clone, Copy)]
 pub enum Wait {
     Nothing,
     Answer(Request),
 }
 
 // No candidate, its list is open, or its list is done and modes are missing.
-#[derive(Drop)]
+#[derive(Clone, Copy)]
 pub enum Candidate {
     Absent,
     Open,
@@ -29,13 +31,13 @@ pub enum Candidate {
 }
 
 // How many identity objects (the extent) and SVIDs (the count) a catalogue has.
-#[derive(Drop)]
+#[derive(Clone, Copy)]
 pub struct Size {
     pub extent: u8,
     pub count: u8,
 }
 
-#[derive(Drop)]
+#[derive(Clone, Copy)]
 pub enum Held {
     Nothing,
     Catalogue(Size),
@@ -43,7 +45,7 @@ pub enum Held {
 
 // Besides what is awaited and where the candidate stands: the candidate's size, how many of its SVIDs have their modes stored, the pages counted
 // since the last Identity was sent, the held catalogue's size, and the edition of what is sent.
-#[derive(Drop)]
+#[derive(Clone, Copy)]
 pub struct Laptop {
     pub wait: Wait,
     pub candidate: Candidate,
@@ -55,7 +57,7 @@ pub struct Laptop {
 }
 
 // An Attention: its SVID and position, and how many objects follow its header (0 or 1), with that object or 0.
-#[derive(Drop)]
+#[derive(Clone, Copy)]
 pub struct Notice {
     pub svid: u16,
     pub position: u8,
@@ -64,7 +66,7 @@ pub struct Notice {
 }
 
 // What policy is told: an Attention, or what ended the wait of an enter or exit that came to nothing.
-#[derive(Drop)]
+#[derive(Clone, Copy)]
 pub enum Told {
     Nothing,
     Attention(Notice),
@@ -75,7 +77,7 @@ pub enum Told {
 }
 
 // What a call gives back: the refusal number, how many bytes of the output buffer are to be sent, what policy is told, and the new state.
-#[derive(Drop)]
+#[derive(Clone, Copy)]
 pub struct Step {
     pub refusal: u8,
     pub length: u8,

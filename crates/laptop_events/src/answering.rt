@@ -21,7 +21,7 @@ const UNWRITTEN: u8 = 0xEE;
 const UNWRITTEN_WORD: u32 = 0xEEEEEEEE;
 
 // What stays from event to event: the owner, and the length of the output buffer that it lends to each side's calls.
-#[derive(Drop)]
+#[derive(Clone, Copy)]
 pub struct State {
     pub owner: Owner,
     partner_output: u8,
@@ -29,28 +29,28 @@ pub struct State {
 }
 
 // The digest of a lent output buffer.
-#[derive(Drop)]
+#[derive(Clone, Copy)]
 pub enum Output {
     Nothing,
     Digest(u32),
 }
 
 // The number of bytes of a catalogue that was written, and their digest.
-#[derive(Drop)]
+#[derive(Clone, Copy)]
 pub enum Catalogue {
     Nothing,
     Written(u16, u32),
 }
 
 // The number of an SVID's entered modes.
-#[derive(Drop)]
+#[derive(Clone, Copy)]
 pub enum Report {
     Nothing,
     Entered(u32),
 }
 
 // Of a timer or the protocol error, the side is the one that waited. The first `length` bytes of `sent` are to be sent.
-#[derive(Drop)]
+#[derive(Clone, Copy)]
 pub struct Answer {
     pub side: Side,
     pub refusal: u8,
@@ -62,7 +62,7 @@ pub struct Answer {
     pub report: Report,
 }
 
-#[derive(Drop)]
+#[derive(Clone, Copy)]
 pub struct Outcome {
     pub answer: Answer,
     pub state: State,

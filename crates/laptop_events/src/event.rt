@@ -30,7 +30,7 @@ pub const LONGEST_MESSAGE: usize = 40;
 pub const CATALOGUE_ROOM: usize = 2500;
 
 // How much later calls of a side are lent: bytes of the output buffer, words of the candidate's run and of the held run.
-#[derive(Drop)]
+#[derive(Clone, Copy)]
 pub struct Lengths {
     pub output: u8,
     pub run: usize,
@@ -38,7 +38,7 @@ pub struct Lengths {
 }
 
 // A message has its number of bytes, a report its SVID, writing the catalogue the length of its output buffer.
-#[derive(Drop)]
+#[derive(Clone, Copy)]
 pub enum Event {
     Message(usize),
     Call(Call),
@@ -48,7 +48,7 @@ pub enum Event {
 }
 
 // The event that stood next, with its side, or the turn without one.
-#[derive(Drop)]
+#[derive(Clone, Copy)]
 pub enum Taken {
     Whole(Side, Event),
     Without(Turn),

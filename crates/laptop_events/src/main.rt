@@ -1,3 +1,5 @@
+#![tactic(auto)]
+
 // Drives the laptop end by the streams of events on standard input, which can lend each side runs and buffers of any length: each event gets one line.
 mod answering;
 mod event;

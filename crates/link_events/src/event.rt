@@ -38,7 +38,7 @@ const FAILED: u8 = 0x57;
 const NEW_STREAM: u8 = 0x58;
 
 // An owner's call, the timer of the awaited command, the protocol error, or an event on the side's link.
-#[derive(Drop)]
+#[derive(Clone, Copy)]
 pub enum Event {
     Call(Call),
     Timer,
@@ -47,7 +47,7 @@ pub enum Event {
 }
 
 // The event that stood next, with the side that it says, or the turn without one.
-#[derive(Drop)]
+#[derive(Clone, Copy)]
 pub enum Taken {
     Whole(Side, Event),
     Without(Turn),

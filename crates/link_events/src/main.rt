@@ -1,3 +1,5 @@
+#![tactic(auto)]
+
 // Joins each side of the laptop end and a dock end by the link of demand 3, drives them by the streams of events on standard input, and prints a line for
 // each event.
 mod at_laptop;

@@ -2,7 +2,7 @@
 use driving::owning::Owner;
 use linking::far_end::FarEnd;
 
-#[derive(Drop)]
+#[derive(Clone, Copy)]
 pub struct State {
     pub owner: Owner,
     pub far_end: FarEnd,

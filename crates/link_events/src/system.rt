@@ -10,7 +10,7 @@ use linking::link::permits;
 use port::{Side, Wait};
 
 // Each side has a far end. The last field is the side of the last event.
-#[derive(Drop)]
+#[derive(Clone, Copy)]
 pub struct Ends {
     pub owner: Owner,
     pub partner: FarEnd,

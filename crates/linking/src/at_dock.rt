@@ -12,7 +12,7 @@ use streams::input::length_of;
 const PER_PAGE: u8 = 12;
 
 // What policy answers with: so many of the objects.
-#[derive(Drop)]
+#[derive(Clone, Copy)]
 struct Reply {
     objects: [u32; MODES_EACH],
     count: u8,

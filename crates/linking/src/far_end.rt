@@ -5,21 +5,21 @@ use laptop::RUN_WORDS;
 use messages::Edition;
 
 // The modes of the dock's SVIDs: how many each has, and six words for each.
-#[derive(Drop)]
+#[derive(Clone, Copy)]
 pub struct Modes {
     pub counts: [u8; 72],
     pub words: [u32; RUN_WORDS],
 }
 
 // The refusal number of the call that an event made.
-#[derive(Drop)]
+#[derive(Clone, Copy)]
 pub enum Refusal {
     Nothing,
     Number(u8),
 }
 
 // The dock with its highest edition, and the link to it. `lost` counts the confirmations lost in this gathering. The last two fields are of the last event.
-#[derive(Drop)]
+#[derive(Clone, Copy)]
 pub struct FarEnd {
     pub dock: Dock,
     pub highest: Edition,

@@ -1,3 +1,5 @@
+#![tactic(auto)]
+
 // The link of demand 3 and the dock at its far end: what the events on the link do to them.
 mod ahead;
 pub mod at_dock;
@@ -6,7 +8,7 @@ mod highest;
 pub mod link;
 pub mod start;
 
-#[derive(Drop)]
+#[derive(Clone, Copy)]
 pub enum Event {
     RequestReaches,
     RequestLost,

@@ -6,7 +6,7 @@ pub const REQUEST: usize = 4;
 
 pub const ANSWER: usize = 28;
 
-#[derive(Drop)]
+#[derive(Clone, Copy)]
 pub enum Place {
     Absent,
     UnderWay,
@@ -15,7 +15,7 @@ pub enum Place {
 }
 
 // What the dock has heard of its answer.
-#[derive(Drop)]
+#[derive(Clone, Copy)]
 pub enum Heard {
     Nothing,
     Sent,
@@ -23,7 +23,7 @@ pub enum Heard {
 }
 
 // The answer is the first `length` of the bytes, and counted once the laptop has counted it as a page.
-#[derive(Drop)]
+#[derive(Clone, Copy)]
 pub struct Link {
     pub has_request: bool,
     pub request: [u8; REQUEST],

@@ -11,7 +11,7 @@ use streams::input::{Byte, fill, fill_halves, fill_words, length_of, read_byte};
 const UNREAD: u8 = 255;
 
 // The dock is loaded. Where the data is good, `page` is how many pages it has sent before.
-#[derive(Drop)]
+#[derive(Clone, Copy)]
 pub struct Start {
     pub is_good: bool,
     dock: Dock,
@@ -22,7 +22,7 @@ pub struct Start {
 }
 
 // A number that was read with what it counts, or one that is cut or past its limit.
-#[derive(Drop)]
+#[derive(Clone, Copy)]
 enum Number {
     Good(u8),
     Bad,

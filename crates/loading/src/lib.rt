@@ -1,3 +1,5 @@
+#![tactic(auto)]
+
 // Loading the dock: document 01, "The dock end". The state is that of `dock`.
 mod list;
 

@@ -1,3 +1,5 @@
+#![tactic(auto)]
+
 // Mends a catalogue file into another file, and reports what came out. docs/CATALOGUE.md has the lines.
 mod mending_file;
 mod names;

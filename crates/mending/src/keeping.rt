@@ -13,7 +13,7 @@ const END_KIND: u8 = 0x00;
 const FRAME: usize = 2;
 
 // The numbers of SVIDs and of modes in what comes out, and of its bytes.
-#[derive(Drop)]
+#[derive(Clone, Copy)]
 pub struct Kept {
     pub svids: usize,
     pub modes: usize,

@@ -1,3 +1,5 @@
+#![tactic(auto)]
+
 // A damaged catalogue file mended: what stands before its first fault, less an SVID without modes, and the end. Document 02, R-6.
 mod keeping;
 
@@ -15,14 +17,14 @@ pub const NO_IDENTITY: u8 = 19;
 pub const SHORT: u8 = 11;
 
 // The first fault of a file: its number, 15 to 18, and the offset of its record.
-#[derive(Drop)]
+#[derive(Clone, Copy)]
 pub struct Fault {
     pub number: u8,
     pub at: usize,
 }
 
 // A refusal writes nothing. A sound file comes out the same; any other that has its identity is mended, and what comes out is a part of what it was.
-#[derive(Drop)]
+#[derive(Clone, Copy)]
 pub enum Mended {
     Refused(u8),
     Sound(Kept),

@@ -3,7 +3,7 @@ ghost use Rattle.std.specs.Prelude.{◌≡◌};
 ghost use Rattle.messages.specs.Editions.{edition_number, edition_named};
 ghost use Rattle.messages.specs.Editions.{lower as Editions·lower};
 
-#[derive(Drop)]
+#[derive(Clone, Copy)]
 pub enum Edition {
     OneZero,
     TwoZero,
@@ -14,7 +14,7 @@ pub enum Edition {
 pub const OURS: Edition = Edition::TwoOne;
 
 // What a number says: an edition, or none.
-#[derive(Drop)]
+#[derive(Clone, Copy)]
 pub enum Named {
     Edition(Edition),
     Nothing,

@@ -1,3 +1,5 @@
+#![tactic(auto)]
+
 // Structured VDMs of USB Power Delivery: document 01, "Message layout". What a message is made of, and the table. `reading` reads one off bytes,
 // `writing` writes one.
 mod edition;
@@ -11,7 +13,7 @@ pub use request::{Request, head_for, request_of, same_request};
 pub use table::shape;
 
 // What a VDM header says, its edition left out: nothing that is compared looks at that. 01's types are numbers here: REQ, ACK, NAK, BUSY.
-#[derive(Drop)]
+#[derive(Clone, Copy)]
 pub struct Head {
     pub svid: u16,
     pub command: u8,
@@ -42,14 +44,14 @@ pub const EXIT: u8 = 5;
 pub const ATTENTION: u8 = 6;
 
 // A message's edition, its head and the number of objects after the header, or a refusal number.
-#[derive(Drop)]
+#[derive(Clone, Copy)]
 pub enum ReadAs {
     Message(Edition, Head, u8),
     Refused(u8),
 }
 
 // What reading gives: the objects after the header stand first among the six words, and zeros behind them.
-#[derive(Drop)]
+#[derive(Clone, Copy)]
 pub struct Reading {
     pub outcome: ReadAs,
     pub objects: [u32; 6],

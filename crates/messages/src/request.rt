@@ -4,7 +4,7 @@ ghost use Rattle.messages.specs.Requests.{request_of, same_request, head_for};
 
 use crate::Head;
 
-#[derive(Drop)]
+#[derive(Clone, Copy)]
 pub struct Request {
     pub svid: u16,
     pub command: u8,

@@ -7,7 +7,7 @@ use crate::{ATTENTION, ENTER, EXIT, Head, IDENTITY, MODES, PD_SID, SVIDS};
 
 // What a command's messages look like. The object counts, the header counted, stand as two hexadecimal digits a type, least and most,
 // BUSY first: 0x11114711 is BUSY 1..1, NAK 1..1, ACK 4..7, REQ 1..1; 1..0 is none. One number is one load, and its digits need no branch.
-#[derive(Drop)]
+#[derive(Clone, Copy)]
 pub struct Row {
     pub counts: u32,
     pub lowest: u16,

@@ -1,3 +1,5 @@
+#![tactic(auto)]
+
 // The owner's calls that enter and exit modes: document 01, "The laptop end".
 ghost use Rattle.std.specs.Prelude.{◌≡◌};
 ghost use Rattle.laptop.specs.Marks.{is_entered};

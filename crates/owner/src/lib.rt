@@ -1,3 +1,5 @@
+#![tactic(auto)]
+
 // The owner's calls that ask for a catalogue, and *drop*: document 01, "The laptop end". `modes` has those that enter and exit modes.
 ghost use Rattle.std.specs.Prelude.{◌≡◌, length, get_or};
 ghost use Rattle.laptop.specs.State.{identity_asked};

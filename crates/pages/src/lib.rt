@@ -1,3 +1,5 @@
+#![tactic(auto)]
+
 // The pages of a list of SVIDs: twelve a page, two an object. `taking` takes one.
 mod list;
 
@@ -7,7 +9,7 @@ ghost use Rattle.pages.specs.Pages.{page as Pages·page, is_last, pair_at, pairs
 pub use list::{first_svids, is_in, sound};
 
 // A page's objects stand first among the six words, and zeros behind them.
-#[derive(Drop)]
+#[derive(Clone, Copy)]
 pub struct Page {
     pub objects: [u32; 6],
     pub count: u8,

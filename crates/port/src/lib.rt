@@ -1,3 +1,5 @@
+#![tactic(auto)]
+
 // The laptop end as its users know it: a catalogue of the port partner, and one of the near cable plug. Document 02, R-4. Each side is a laptop of document
 // 01, and one wait is shared by the two.
 //
@@ -19,21 +21,21 @@ pub use sides::{seen, stepped_on};
 pub use waiting::{entry_timer, exit_timer, protocol_error, response_timer};
 
 // The port partner, or the near cable plug.
-#[derive(Drop)]
+#[derive(Clone, Copy)]
 pub enum Side {
     Partner,
     Cable,
 }
 
 // Nothing is awaited, or a side's answer to a request.
-#[derive(Drop)]
+#[derive(Clone, Copy)]
 pub enum Wait {
     Nothing,
     Answer(Side, Request),
 }
 
 // What a side has of its own: a `Laptop` but for what is awaited.
-#[derive(Drop)]
+#[derive(Clone, Copy)]
 pub struct Own {
     pub candidate: Candidate,
     pub gathered: Size,
@@ -43,7 +45,7 @@ pub struct Own {
     pub edition: Edition,
 }
 
-#[derive(Drop)]
+#[derive(Clone, Copy)]
 pub struct Port {
     pub wait: Wait,
     pub partner: Own,
@@ -52,7 +54,7 @@ pub struct Port {
 
 // What a call gives back: the refusal number, how many bytes of the output buffer are to be sent, what policy is told and of which side, and the new
 // state. A timer's side is the one that waited, or the partner where none did.
-#[derive(Drop)]
+#[derive(Clone, Copy)]
 pub struct Step {
     pub refusal: u8,
     pub length: u8,

@@ -1,3 +1,5 @@
+#![tactic(auto)]
+
 // Reading a message off bytes: document 01, "Message layout" and refusals 1, 2, 3 and 5. What reading gives is defined in `messages`.
 mod object;
 

@@ -1,3 +1,5 @@
+#![tactic(auto)]
+
 // A catalogue rebuilt from its bytes: the file is judged whole before the first word is stored. Document 02, R-1.
 mod words;
 
@@ -11,7 +13,7 @@ use words::{objects_in, put_modes};
 pub const SHORT_RUN: u8 = 11;
 
 // The refusal number, and where the fault stands, or the end of the file; on acceptance how many identity objects, SVIDs and modes there are.
-#[derive(Drop)]
+#[derive(Clone, Copy)]
 pub struct Rebuilt {
     pub refusal: u8,
     pub at: usize,

@@ -1,3 +1,5 @@
+#![tactic(auto)]
+
 // A message reaches the dock end: document 01, "The dock end"; document 02, R-5. The state is that of `dock`.
 ghost use Rattle.std.specs.Prelude.{◌≡◌};
 ghost use Rattle.messages.specs.Reading.{read_outcome};

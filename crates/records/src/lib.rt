@@ -1,3 +1,5 @@
+#![tactic(auto)]
+
 // The records of a catalogue, one at a time over the caller's bytes. Documents 01, "Catalogue bytes", and 02, R-1.
 mod reader;
 
@@ -33,7 +35,7 @@ pub const UNKNOWN_KIND: u8 = 15;
 pub const CUT_RECORD: u8 = 16;
 
 // An identity has its number of objects, which stand behind its kind.
-#[derive(Drop)]
+#[derive(Clone, Copy)]
 pub enum Record {
     Identity(u8),
     Svid(u16),
@@ -43,7 +45,7 @@ pub enum Record {
 
 // What stands at a place among bytes: a whole record and the number of its bytes, the kind counted; a kind that there is not; a body that is cut; the
 // end of the bytes.
-#[derive(Drop)]
+#[derive(Clone, Copy)]
 pub enum Found {
     Whole(Record, usize),
     Unknown,

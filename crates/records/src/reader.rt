@@ -4,7 +4,7 @@ ghost use Rattle.records.specs.Records.{found_at};
 
 use crate::{Found, record_at};
 
-#[derive(Drop)]
+#[derive(Clone, Copy)]
 pub struct Reader<'a> {
     pub bytes: &'a [u8],
     pub at: usize,

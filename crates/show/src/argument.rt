@@ -2,14 +2,14 @@
 const MOST_DIGITS: usize = 4;
 
 // What is to be shown of a catalogue; Malformed where the word for an SVID is none.
-#[derive(Drop)]
+#[derive(Clone, Copy)]
 pub enum Asked {
     All,
     One(u16),
     Malformed,
 }
 
-#[derive(Drop)]
+#[derive(Clone, Copy)]
 enum Digit {
     Of(u8),
     Other,

@@ -1,3 +1,5 @@
+#![tactic(auto)]
+
 // Shows a catalogue file to people: all of it, or the modes of one SVID. docs/CATALOGUE.md has the lines.
 mod argument;
 mod printing;

@@ -5,7 +5,7 @@ use crate::input::first_bytes;
 use libc::STDIN_FILENO;
 
 // The part of a block of input that is read and not yet taken, and whether the input ended behind it.
-#[derive(Drop)]
+#[derive(Clone, Copy)]
 pub struct Unread {
     pub start: usize,
     pub end: usize,

@@ -6,7 +6,7 @@ pub const MOST: u64 = 1000000;
 
 // What became of the vector or event that was to come next. Of the programs that read several streams, a new one may stand in its place, or one that
 // begins badly.
-#[derive(Drop)]
+#[derive(Clone, Copy)]
 pub enum Turn {
     Answered,
     NewStream,
@@ -17,7 +17,7 @@ pub enum Turn {
 }
 
 // The turn that was the last, and how many were answered before it.
-#[derive(Drop)]
+#[derive(Clone, Copy)]
 pub struct Finish {
     pub turn: Turn,
     pub answered: u64,

@@ -31,7 +31,7 @@ pub fn word_of(bytes: &[u8; 4]) -> u32 {
 }
 
 // A byte that was read, or the input ended before it.
-#[derive(Drop)]
+#[derive(Clone, Copy)]
 pub enum Byte {
     Read(u8),
     Cut,

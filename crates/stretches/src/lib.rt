@@ -1,3 +1,5 @@
+#![tactic(auto)]
+
 // The stretch of one SVID: the part of a catalogue's bytes that holds its mode records. Document 02, R-1.
 ghost use Rattle.std.specs.Prelude.{List, ◌≡◌, ◌+◌, ◌*◌, ◌<◌, ◌≤◌, length};
 ghost use Rattle.laptop.specs.Catalogue.{Entry};
@@ -11,7 +13,7 @@ use records::{MODE_RECORD, OBJECT_BYTES, SVID_RECORD};
 pub const NOT_LISTED: u8 = 12;
 
 // The refusal number and the fault's offset; on acceptance where the stretch begins, and how many bytes it has, which are none with a refusal.
-#[derive(Drop)]
+#[derive(Clone, Copy)]
 pub struct Place {
     pub refusal: u8,
     pub at: usize,
@@ -74,7 +76,7 @@ pub fn find_stretch(bytes: &[u8], svid: u16) -> Place
 }
 
 // What is handed back: that part of the bytes, none with a refusal; the refusal number; and where the fault or the part stands.
-#[derive(Drop)]
+#[derive(Clone, Copy)]
 pub struct Stretch<'a> {
     pub part: &'a [u8],
     pub refusal: u8,

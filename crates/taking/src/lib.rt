@@ -1,3 +1,5 @@
+#![tactic(auto)]
+
 // Taking a page: what its values are to the gathered list. Document 01, "Taking a page".
 ghost use Rattle.std.specs.Prelude.{◌≡◌, length};
 ghost use Rattle.taking.specs.Taking.{same_list, is_repeat, is_full, is_ending, all_new, adds, nothing, ending_verdict, verdict};
@@ -6,7 +8,7 @@ ghost use Rattle.taking.specs.Taking.{before as Taking·before};
 use pages::{MOST_SVIDS, PER_PAGE, is_in};
 
 // A page that is bad, that repeats the last one, that adds twelve SVIDs, or that ends the list with so many.
-#[derive(Drop)]
+#[derive(Clone, Copy)]
 pub enum Verdict {
     Bad,
     Repeat,

@@ -1,3 +1,5 @@
+#![tactic(auto)]
+
 // Timers and the protocol error: document 01, "The laptop end". The state is that of `laptop`.
 ghost use Rattle.std.specs.Prelude.{◌≡◌};
 ghost use Rattle.laptop.specs.Calls.{step_of};

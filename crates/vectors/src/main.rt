@@ -1,3 +1,5 @@
+#![tactic(auto)]
+
 // Answers the vectors on standard input: each asks the message library to read or to write one
 // message, and gets one line on standard output.
 mod read_vector;

@@ -11,7 +11,7 @@ use streams::input::word_of;
 const OBJECT: usize = 4;
 
 // The port's step, the event's side, and the header of the request where one is to be sent.
-#[derive(Drop)]
+#[derive(Clone, Copy)]
 pub struct Answer {
     pub step: Step,
     pub side: Side,

@@ -1,3 +1,5 @@
+#![tactic(auto)]
+
 // The watcher of documents 01 and 02: drives the laptop end by the events on standard input, and prints a line for each.
 mod acting;
 mod lending;

@@ -14,7 +14,7 @@ use text::line::{
 // space before each but the first, and the line end.
 const LONGEST_LINE: usize = 29;
 
-#[derive(Drop)]
+#[derive(Clone, Copy)]
 pub struct State {
     pub port: Port,
     pub unread: Unread,
@@ -22,7 +22,7 @@ pub struct State {
 }
 
 // What stands next in the input.
-#[derive(Drop)]
+#[derive(Clone, Copy)]
 pub struct Next {
     pub state: State,
     pub found: Found,

@@ -1,3 +1,5 @@
+#![tactic(auto)]
+
 // Writing a message at an edition into a lent buffer: document 01, "Message layout" and refusals 5 and 11; document 02, R-5. What writing leaves is defined in
 // `messages`.
 ghost use Rattle.std.specs.Prelude.{◌≡◌, ◌+◌, ◌*◌, ◌<◌, ◌≤◌, length};

@@ -14,7 +14,7 @@ use Rattle.laws.specs.Padded.{padded}
 use Rattle.laws.proofs.Lines.{first_line_lem, first_at_lem}
 use Rattle.messages.specs.Layout.{head_of, Message, Representable, message_bytes, message_length, with_version, with_reserved_clear}
 use Rattle.messages.specs.Table.{row_of, counts_of, shape, allowed, first_head}
-use Rattle.messages.specs.Reading.{header_in, read_lines, read_refusal, message_in, Outcome, accepted, refused, outcome, read_outcome, shown}
+use Rattle.messages.specs.Reading.{header_in, read_lines, read_refusal, message_in, Outcome, accepted, refused, read_outcome, shown}
 use Rattle.messages.specs.Writing.{well_shaped, write_refusal, written, Written}
 use Rattle.messages.specs.declared.ReadAs.TheVariants.{Refused}
 use Rattle.messages.specs.declared.ReadAs.TheVariants.{Message as ReadAsMessage}

@@ -1,0 +1,6 @@
+-- `bytes_of` meets its promise.
+use Rattle.messages.proofs.Stores.{object_bytes}
+use Rattle.messages.proofs.object.bytes_of.Goals as goal
+
+pub returns : goal.returns
+returns c = object_bytes c.args.object

@@ -1,9 +1,9 @@
 -- `put_values` meets its promise. The loop's invariant: the first i values stand there, and nothing else has changed.
-use mathlib.Core.Path.{◌≡◌, refl, ap, ◌∙◌}
+use mathlib.Core.Path.{refl, ap, ◌∙◌}
 use mathlib.Core.List.{List}
-use Prim.Native.Nat.{ℕ, ◌-◌, ◌≤◌, ◌+◌}
+use Prim.Native.Nat.{ℕ, ◌+◌}
 use native.Mathlib.Omega.{arith}
-use lib.ListN.{length, take, set, get_or}
+use lib.ListN.{set, get_or}
 use lib.Seq.{sets, take_all}
 use Rattle.laws.proofs.Stores.{sets_next}
 use Rattle.gathering.proofs.gathering.put_values.Goals as goal

@@ -1,11 +1,8 @@
 -- `put_values` meets its promise. The loop's invariant: the first i values stand there, and nothing else has changed.
-use mathlib.Core.Path.{◌≡◌, refl, ap, ◌∙◌}
-use mathlib.Core.List.{List}
-use Prim.Native.Nat.{ℕ, ◌-◌, ◌≤◌, ◌+◌}
-use native.Mathlib.Omega.{arith}
-use lib.ListN.{length, take, set, get_or}
-use lib.Seq.{sets, take_all}
-use Rattle.laws.proofs.Stores.{sets_next}
+use mathlib.Core.Path.{◌≡◌}
+use Prim.Native.Nat.{◌-◌, ◌≤◌}
+use lib.ListN.{length, take}
+use lib.Seq.{sets}
 use Rattle.gathering.proofs.gathering.put_values.Given as goal
 
 abbrev pub invariant-loop-i : goal.invariant-loop-i

@@ -1,10 +1,8 @@
 -- `copy_modes` meets its promise. The loop's invariant: the words before k are copied, and what the definition gives is theirs and the rest's.
-use mathlib.Core.Path.{◌≡◌, refl, ap, sym, ◌∙◌}
-use Prim.Native.Nat.{◌-◌, ◌≤◌}
+use mathlib.Core.Path.{refl, ap, sym, ◌∙◌}
 use native.Mathlib.Omega.{arith}
 use lib.ListN.{length}
-use Rattle.publishing.specs.Publishing.{copied}
-use Rattle.publishing.proofs.Copying.{copied_from, copy_step, copy_end, length_copied_to}
+use Rattle.publishing.proofs.Copying.{copy_step, copy_end, length_copied_to}
 use Rattle.publishing.proofs.publishing.copy_modes.Goals as goal
 
 pub overflow_mul-end : goal.overflow_mul-end

@@ -1,10 +1,9 @@
 -- `copy_modes` meets its promise. The loop's invariant: the words before k are copied, and what the definition gives is theirs and the rest's.
-use mathlib.Core.Path.{◌≡◌, refl, ap, sym, ◌∙◌}
+use mathlib.Core.Path.{◌≡◌}
 use Prim.Native.Nat.{◌-◌, ◌≤◌}
-use native.Mathlib.Omega.{arith}
 use lib.ListN.{length}
 use Rattle.publishing.specs.Publishing.{copied}
-use Rattle.publishing.proofs.Copying.{copied_from, copy_step, copy_end, length_copied_to}
+use Rattle.publishing.proofs.Copying.{copied_from}
 use Rattle.publishing.proofs.publishing.copy_modes.Given as goal
 
 abbrev pub invariant-loop-k : goal.invariant-loop-k

@@ -1,5 +1,5 @@
 // The lines of a sound file. Each is built in a buffer with room for the longest of its kind.
-use libc::STDOUT_FILENO;
+use streams::finish::STDOUT;
 use records::{Found, Record, record_from};
 use text::line::{append, append_half, append_spaced_word, append_words, end_line};
 
@@ -10,7 +10,7 @@ const LONGEST: usize = 63;
 const MODE_RECORD: usize = 5;
 
 pub fn print_usage() {
-    io::write_all(STDOUT_FILENO, b"usage: show FILE [SVID]\n");
+    io::write_all(STDOUT, b"usage: show FILE [SVID]\n");
 }
 
 pub fn print_identity(objects: &[u32]) {

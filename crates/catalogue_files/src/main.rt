@@ -6,7 +6,7 @@ mod mend_file;
 mod read_file;
 mod read_record;
 
-use streams::finish::{MOST, STDOUT, Finish, Turn, print_finish};
+use streams::finish::{Finish, MOST, STDOUT, Turn, print_finish};
 use streams::input::{Byte, read_byte};
 
 // The kinds of question.

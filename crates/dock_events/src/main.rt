@@ -7,7 +7,7 @@ mod report;
 use dock::Dock;
 use event::unchanged;
 use report::print_event;
-use streams::finish::{MOST, STDOUT, Finish, Turn, print_finish};
+use streams::finish::{Finish, MOST, STDOUT, Turn, print_finish};
 use streams::input::{Byte, GREATEST, length_of, read_byte};
 
 // The kind of the event that gives the output buffer another number of bytes. Module `event` has

@@ -8,7 +8,7 @@ mod report;
 use answering::{begin, take};
 use event::{LONGEST_MESSAGE, Taken, take_event};
 use report::print_event;
-use streams::finish::{MOST, STDOUT, Finish, Turn, print_finish};
+use streams::finish::{Finish, MOST, STDOUT, Turn, print_finish};
 
 // Answers a stream, whose port is fresh, after so many events of the streams before it.
 fn answer_stream(stream: u64, before: u64) -> Finish {

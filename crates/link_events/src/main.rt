@@ -13,7 +13,7 @@ use begin::begin;
 use event::{Taken, take_event};
 use linking::start::read_start;
 use report::print_event;
-use streams::finish::{MOST, STDOUT, Finish, Turn, print_finish};
+use streams::finish::{Finish, MOST, STDOUT, Turn, print_finish};
 use system::{Ends, take};
 
 // Answers the events of a stream, after so many events of the streams before it.

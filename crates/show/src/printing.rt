@@ -1,6 +1,6 @@
 // The lines of a sound file. Each is built in a buffer with room for the longest of its kind.
-use streams::finish::STDOUT;
 use records::{Found, Record, record_from};
+use streams::finish::STDOUT;
 use text::line::{append, append_half, append_spaced_word, append_words, end_line};
 
 // "identity", six words of a space and eight digits each, and the line end.

@@ -5,7 +5,7 @@
 mod read_vector;
 mod write_vector;
 
-use streams::finish::{MOST, STDOUT, Finish, Turn, print_finish};
+use streams::finish::{Finish, MOST, STDOUT, Turn, print_finish};
 use streams::input::{Byte, read_byte};
 use text::line::{append, append_decimal};
 

@@ -10,7 +10,7 @@ use events::Found;
 use laptop::RUN_WORDS;
 use lending::{bytes_of, identity_of, run_of, svids_of};
 use state::{State, answered, begin, find_next};
-use streams::finish::{MOST, STDOUT, Finish, Turn, print_finish};
+use streams::finish::{Finish, MOST, STDOUT, Turn, print_finish};
 use text::line::print_line;
 
 // How many bytes are read or written at once.

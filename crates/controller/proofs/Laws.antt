@@ -5,7 +5,7 @@ use mathlib.Core.List.{List, []}
 use Prim.Native.Nat.{ℕ}
 use native.Mathlib.Omega.{arith}
 use lib.ListN.{length, replicate}
-use denote.Ref.{Bor}
+use denote.Ref.{MutBor}
 use Rattle.dock.specs.Data.{fresh_dock}
 use Rattle.dock.specs.Dock.{Decision}
 use Rattle.dock.specs.declared.Dock.{Dock}
@@ -173,33 +173,33 @@ catalogue_mend_sound {bytes} {result} {out} zero p = go (number_given_lem bytes 
     go (inr (inr e)) z = sym e ∙ z
 
 -- of two results that a promise allows of one call, lent the same, all that is returned and left is the same
-module _ {decide : Dock → Decision} {number number' : ℕ} {state identity svids : Lent (List ℕ)} {bytes : Lent ℕ} {state' : Bor (List ℕ)}
-    {bytes' : Bor ℕ} where
+module _ {decide : Dock → Decision} {number number' : ℕ} {state identity svids : Lent (List ℕ)} {bytes : Lent ℕ} {state' : MutBor (List ℕ)}
+    {bytes' : MutBor ℕ} where
   pub dock_sends_nothing_only : DockSendsNothing decide number state identity svids bytes →
       DockSendsNothing decide number' (leaving state state') identity svids (leaving bytes bytes') →
       (number ≡ number') × (left state ≡ state'.now) × (left bytes ≡ bytes'.now)
   dock_sends_nothing_only p p' = dock_step_only p.step_is p'.step_is
 
-  pub dock_sends_only : {out : Lent (List ℕ)} {out' : Bor (List ℕ)} → DockSends decide number state identity svids out bytes →
+  pub dock_sends_only : {out : Lent (List ℕ)} {out' : MutBor (List ℕ)} → DockSends decide number state identity svids out bytes →
       DockSends decide number' (leaving state state') identity svids (leaving out out') (leaving bytes bytes') →
       ((number ≡ number') × (left state ≡ state'.now) × (left bytes ≡ bytes'.now)) × (left out ≡ out'.now)
   dock_sends_only p p' = (dock_step_only p.step_is p'.step_is, p.buffer_is ∙ sym p'.buffer_is)
 
 pub dock_loads_only : {new_identity new_svids : List ℕ} {number number' : ℕ} {state identity svids : Lent (List ℕ)} {bytes : Lent ℕ}
-    {state' identity' svids' : Bor (List ℕ)} {bytes' : Bor ℕ} → DockLoads new_identity new_svids number state identity svids bytes →
+    {state' identity' svids' : MutBor (List ℕ)} {bytes' : MutBor ℕ} → DockLoads new_identity new_svids number state identity svids bytes →
     DockLoads new_identity new_svids number' (leaving state state') (leaving identity identity') (leaving svids svids') (leaving bytes bytes') →
     ((number ≡ number') × (left state ≡ state'.now) × (left bytes ≡ bytes'.now)) × (left identity ≡ identity'.now) × (left svids ≡ svids'.now)
 dock_loads_only {identity = identity} {svids = svids} p p' =
     let step_same = dock_step_only p.step_is p'.step_is in
     (step_same, accepted_only _ (lent identity) step_same.0 p.identity_is p'.identity_is, accepted_only _ (lent svids) step_same.0 p.svids_is p'.svids_is)
 
-module _ {number number' : ℕ} {state handed : Lent (List ℕ)} {state' handed' : Bor (List ℕ)} where
+module _ {number number' : ℕ} {state handed : Lent (List ℕ)} {state' handed' : MutBor (List ℕ)} where
   pub laptop_sends_nothing_only : {decide : Laptop → LaptopDecision} → LaptopSendsNothing decide number state handed →
       LaptopSendsNothing decide number' (leaving state state') (leaving handed handed') →
       (number ≡ number') × (left state ≡ state'.now) × (left handed ≡ handed'.now)
   laptop_sends_nothing_only p p' = laptop_step_only p.step_is p'.step_is
 
-  pub laptop_sends_only : {side : Side} {decide : Laptop → LaptopDecision} {run held_run : ℕ} {out : Lent (List ℕ)} {out' : Bor (List ℕ)} →
+  pub laptop_sends_only : {side : Side} {decide : Laptop → LaptopDecision} {run held_run : ℕ} {out : Lent (List ℕ)} {out' : MutBor (List ℕ)} →
       LaptopSends side decide run held_run number state out handed →
       LaptopSends side decide run held_run number' (leaving state state') (leaving out out') (leaving handed handed') →
       ((number ≡ number') × (left state ≡ state'.now) × (left handed ≡ handed'.now)) × (left out ≡ out'.now)
@@ -211,24 +211,24 @@ module _ {number number' : ℕ} {state handed : Lent (List ℕ)} {state' handed'
       ((number ≡ number') × (left state ≡ state'.now) × (left handed ≡ handed'.now)) × (after ≡ after')
   laptop_hears_only p p' = (laptop_step_only p.step_is p'.step_is, p.memory_is ∙ sym p'.memory_is)
 
-pub catalogue_only : {held : HeldCatalogue} {run : List ℕ} {number number' : ℕ} {out : Lent (List ℕ)} {bytes : Lent ℕ} {out' : Bor (List ℕ)}
-    {bytes' : Bor ℕ} → CatalogueCall held run number out bytes → CatalogueCall held run number' (leaving out out') (leaving bytes bytes') →
+pub catalogue_only : {held : HeldCatalogue} {run : List ℕ} {number number' : ℕ} {out : Lent (List ℕ)} {bytes : Lent ℕ} {out' : MutBor (List ℕ)}
+    {bytes' : MutBor ℕ} → CatalogueCall held run number out bytes → CatalogueCall held run number' (leaving out out') (leaving bytes bytes') →
     (number ≡ number') × (left bytes ≡ bytes'.now) × (left out ≡ out'.now)
 catalogue_only {bytes = bytes} p p' =
     let same = p.number_is ∙ sym p'.number_is in
     (same, accepted_only _ (lent bytes) same p.bytes_is p'.bytes_is, p.buffer_is ∙ sym p'.buffer_is)
 
-pub catalogue_read_only : {bytes : List ℕ} {result result' : ℕ} {svids modes identity run sizes : Lent (List ℕ)} {svids' modes' identity' run' sizes' : Bor (List ℕ)} →
+pub catalogue_read_only : {bytes : List ℕ} {result result' : ℕ} {svids modes identity run sizes : Lent (List ℕ)} {svids' modes' identity' run' sizes' : MutBor (List ℕ)} →
     ReadCall bytes result svids modes identity run sizes →
     ReadCall bytes result' (leaving svids svids') (leaving modes modes') (leaving identity identity') (leaving run run') (leaving sizes sizes') →
     (result ≡ result') × (left sizes ≡ sizes'.now) × (arrays_of (left svids) (left modes) (left identity) (left run) ≡ arrays_of svids'.now modes'.now identity'.now run'.now)
 catalogue_read_only p p' = (p.result_is ∙ sym p'.result_is, p.sizes_are ∙ sym p'.sizes_are, p.arrays_are ∙ sym p'.arrays_are)
 
-pub catalogue_stretch_only : {bytes : List ℕ} {svid result result' : ℕ} {found : Lent ℕ} {found' : Bor ℕ} → StretchCall bytes svid result found →
+pub catalogue_stretch_only : {bytes : List ℕ} {svid result result' : ℕ} {found : Lent ℕ} {found' : MutBor ℕ} → StretchCall bytes svid result found →
     StretchCall bytes svid result' (leaving found found') → (result ≡ result') × (left found ≡ found'.now)
 catalogue_stretch_only p p' = (p.result_is ∙ sym p'.result_is, p.length_is ∙ sym p'.length_is)
 
-pub catalogue_mend_only : {bytes : List ℕ} {result result' : ℕ} {out kept : Lent (List ℕ)} {out' kept' : Bor (List ℕ)} → MendCall bytes result out kept →
+pub catalogue_mend_only : {bytes : List ℕ} {result result' : ℕ} {out kept : Lent (List ℕ)} {out' kept' : MutBor (List ℕ)} → MendCall bytes result out kept →
     MendCall bytes result' (leaving out out') (leaving kept kept') → (result ≡ result') × (left out ≡ out'.now) × (left kept ≡ kept'.now)
 catalogue_mend_only p p' = (p.result_is ∙ sym p'.result_is, p.buffer_is ∙ sym p'.buffer_is, p.kept_are ∙ sym p'.kept_are)
 

@@ -5,7 +5,7 @@ use mathlib.Core.List.{List}
 use Prim.Native.Nat.{ℕ, ◌-◌}
 use lib.Bits.{bit_and, bit_or}
 use lib.ListN.{get_or, take}
-use denote.Ref.{Bor}
+use denote.Ref.{MutBor}
 use Rattle.laws.specs.Lent.{Lent, left, leaving}
 use Rattle.laws.proofs.Tight.{one_value}
 use Rattle.messages.specs.Editions.{edition_number, edition_named, lower}
@@ -138,7 +138,7 @@ hear_mode_only k s other entered entered' p q = (one_value p.0 q.0, one_value p.
 
 -- publishing: the step, and all that is held
 pub publish_only : (before : Step) (svids modes identity run : List ℕ) (held_svids held_modes held_identity held_run : Lent (List ℕ))
-    (svids' modes' identity' run' : Bor (List ℕ)) (s other : Step) →
+    (svids' modes' identity' run' : MutBor (List ℕ)) (s other : Step) →
     PublishedAs before svids modes identity run held_svids held_modes held_identity held_run s →
     PublishedAs before svids modes identity run (leaving held_svids svids') (leaving held_modes modes') (leaving held_identity identity') (leaving held_run run') other →
     (s ≡ other) × (left held_svids ≡ svids'.now) × (left held_modes ≡ modes'.now) × (left held_identity ≡ identity'.now) × (left held_run ≡ run'.now)

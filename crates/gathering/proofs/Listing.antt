@@ -1,6 +1,4 @@
 -- Answers to Identity and SVIDs, branch by branch.
-use types.Run.{OneOf, miss}
-use denote.Enum.Declared.{tag_of}
 use mathlib.Core.Path.{◌≡◌, refl, ap, ap₂, sym, ◌∙◌}
 use mathlib.Core.Bool.{true, false, ◌&&◌}
 use mathlib.Core.List.{List, [], ◌∷◌}
@@ -19,7 +17,6 @@ use Rattle.laptop.specs.declared.Candidate.TheVariants.{Absent, Open, Done}
 use Rattle.laptop.specs.declared.Laptop.{Laptop}
 use Rattle.laptop.specs.declared.Step.{Step}
 use Rattle.laptop.specs.declared.Told.TheVariants.{Nothing}
-use Rattle.laptop.specs.contracts.Candidate.{the_type}
 use Rattle.taking.specs.Taking.{verdict}
 use Rattle.taking.specs.declared.Verdict.{Verdict}
 use Rattle.taking.specs.declared.Verdict.TheVariants.{Bad, Repeat, More, Ends}
@@ -116,14 +113,14 @@ module _ (l : Laptop) where
   unfolding none_gathered
   none_open e = rw e
 
-  pub none_other : OneOf (0 ∷ 2 ∷ []) (tag_of the_type l.candidate) → false ≡ none_gathered l
+  pub none_other : (l.candidate ≡ Open → ⊥) → false ≡ none_gathered l
   unfolding none_gathered
   none_other k = go l.candidate k
     where
-      go : (s : Candidate) → OneOf (0 ∷ 2 ∷ []) (tag_of the_type s) → false ≡ (is_open s && eqb l.gathered.count 0)
+      go : (s : Candidate) → (s ≡ Open → ⊥) → false ≡ (is_open s && eqb l.gathered.count 0)
       go Absent o = refl
       go Done o = refl
-      go Open o = absurd (miss (0 ∷ 2 ∷ []) 1 tt o)
+      go Open o = absurd (o refl)
 
 -- SVIDs
 module _ (l : Laptop) (kind : ℕ) (values svids : List ℕ) where

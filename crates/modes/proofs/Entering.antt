@@ -1,9 +1,7 @@
 -- Enter and exit, branch by branch.
-use types.Run.{OneOf, miss}
-use denote.Enum.Declared.{tag_of}
 use mathlib.Core.Path.{◌≡◌, refl, ap, sym, ◌∙◌}
 use mathlib.Core.Bool.{true, false, cond, not, ◌||◌}
-use mathlib.Core.List.{List, [], ◌∷◌}
+use mathlib.Core.List.{List}
 use Prim.Native.Nat.{ℕ, ◌<◌, ◌≤◌}
 use lib.Bits.{bit_and}
 use lib.Dec.{leb, eqb}
@@ -18,7 +16,6 @@ use Rattle.owner.specs.Owner.{owner_refusal, asks, has_mode, is_absent, enter_re
 use Rattle.laptop.specs.declared.Candidate.{Candidate}
 use Rattle.laptop.specs.declared.Candidate.TheVariants.{Absent, Open, Done}
 use Rattle.laptop.specs.declared.Laptop.{Laptop}
-use Rattle.laptop.specs.contracts.Candidate.{the_type}
 use Rattle.laptop.proofs.Steps.{unless_refused, unless_passed}
 
 pub entered_by : (entered : List ℕ) (place position set names : ℕ) → set ≡ get_or entered place 0 → names ≡ named position →
@@ -96,14 +93,14 @@ module _ (l : Laptop) (held_svids held_modes entered : List ℕ) (run held_run s
         unless_passed n _ l _ e z ∙
         ap (λ (x : Candidate). unless (cond (is_absent x) 0 13) l (enters l held_svids held_modes entered svid position)) is
 
-    pub enter_candidate : OneOf (1 ∷ 2 ∷ []) (tag_of the_type l.candidate) →
+    pub enter_candidate : (l.candidate ≡ Absent → ⊥) →
         decide_enter l held_svids held_modes entered run held_run svid position ≡ refuses 13 l
     unfolding unless
     enter_candidate k = go l.candidate refl k
       where
-        go : (s : Candidate) → l.candidate ≡ s → OneOf (1 ∷ 2 ∷ []) (tag_of the_type s) →
+        go : (s : Candidate) → l.candidate ≡ s → (s ≡ Absent → ⊥) →
             decide_enter l held_svids held_modes entered run held_run svid position ≡ refuses 13 l
-        go Absent is k = absurd (miss (1 ∷ 2 ∷ []) 0 tt k)
+        go Absent is k = absurd (k refl)
         go Open is k = by_candidate Open is
         go Done is k = by_candidate Done is
 

@@ -1,6 +1,4 @@
 -- Publishing: when, and which words of the run are copied.
-use types.Run.{OneOf, miss}
-use denote.Enum.Declared.{tag_of}
 use mathlib.Core.Path.{◌≡◌, refl, ap, sym, ◌∙◌}
 use mathlib.Core.Bool.{Bool, true, false, cond, ◌&&◌}
 use mathlib.Core.List.{List, [], ◌∷◌, ◌++◌}
@@ -17,7 +15,6 @@ use Rattle.laptop.specs.declared.Candidate.{Candidate}
 use Rattle.laptop.specs.declared.Candidate.TheVariants.{Absent, Open, Done}
 use Rattle.laptop.specs.declared.Laptop.{Laptop}
 use Rattle.laptop.specs.declared.Step.{Step}
-use Rattle.laptop.specs.contracts.Candidate.{the_type}
 
 mode_past : (modes : List ℕ) (k : ℕ) → length modes ≤ k / 6 → is_mode modes k ≡ false
 unfolding is_mode
@@ -125,14 +122,14 @@ length_copied_to modes run words k = go (is_mode modes k)
     go false = refl
 
 -- when the candidate is whole
-pub whole_not : (l : Laptop) → OneOf (0 ∷ 1 ∷ []) (tag_of the_type l.candidate) → false ≡ is_whole l
+pub whole_not : (l : Laptop) → (l.candidate ≡ Done → ⊥) → false ≡ is_whole l
 unfolding is_whole
 whole_not l k = go l.candidate k
   where
-    go : (s : Candidate) → OneOf (0 ∷ 1 ∷ []) (tag_of the_type s) → false ≡ (is_done s && leb l.gathered.count l.stored)
+    go : (s : Candidate) → (s ≡ Done → ⊥) → false ≡ (is_done s && leb l.gathered.count l.stored)
     go Absent o = refl
     go Open o = refl
-    go Done o = absurd (miss (0 ∷ 1 ∷ []) 2 tt o)
+    go Done o = absurd (o refl)
 
 pub whole_done : (l : Laptop) → l.candidate ≡ Done → leb l.gathered.count l.stored ≡ is_whole l
 unfolding is_whole

@@ -1,0 +1,54 @@
+-- `policy_answer` meets its promise: it must name the request that waits, and then policy's word is followed.
+use mathlib.Core.Path.{sym, ◌∙◌}
+use Prim.Native.Nat.{ℕ}
+use mathlib.Core.List.{List}
+use Rattle.std.proofs.Common.{refl, ◌≡◌}
+use Rattle.messages.specs.declared.request.Request.{Request}
+use Rattle.dock.specs.declared.Dock.{Dock}
+use Rattle.dock.specs.declared.Policy.{Policy}
+use Rattle.dock.specs.declared.Standing.{Standing}
+use Rattle.dock.specs.declared.Standing.TheVariants.{Ready, Asking, Sending}
+use Rattle.dock.specs.Dock.{decide_policy, decide_policy_answer, refuses}
+use Rattle.dock.specs.declared.Policy.TheVariants.{Give, Nak, Busy}
+use Rattle.dock.proofs.Decisions.{answer_other, answer_policy}
+use Rattle.dock.proofs.Steps.{refuse, same}
+use Rattle.answering.proofs.policy_answer.Goals as goal
+
+-- where no request waits, the answer is refused
+answer_standing : (d : Dock) (r : Request) (objects : List ℕ) (policy : Policy) (s : Standing) → ((asked : Request) → s ≡ Asking asked → ⊥) →
+    decide_policy_answer d s policy r objects ≡ refuses 9
+unfolding decide_policy_answer
+answer_standing d r objects policy Ready k = refl
+answer_standing d r objects policy (Asking a) k = absurd (k a refl)
+answer_standing d r objects policy (Sending is_page) k = refl
+
+pub returns-in_default : goal.returns-in_default
+returns-in_default c = let a = c.args in
+    refuse a.dock _ 9 a.out.now _ (answer_standing a.dock a.request a.objects.now a.policy a.dock.standing c.in_default.not-Asking)
+    c.refused.ensures
+
+pub returns-in-Give : goal.returns-in-Give
+returns-in-Give c = let a = c.args in
+    same a.dock _ _ a.out.now _ _
+    (answer_policy a.dock a.request a.objects.now a.policy a.dock.standing _ c.in-Asking.is
+    (sym c.same_request.ensures ∙ c.if-same_request.true) Give c.in-Give.is) c.give.ensures
+
+pub returns-in-Nak : goal.returns-in-Nak
+unfolding decide_policy
+returns-in-Nak c = let a = c.args in
+    same a.dock _ _ a.out.now _ _
+    (answer_policy a.dock a.request a.objects.now a.policy a.dock.standing _ c.in-Asking.is
+    (sym c.same_request.ensures ∙ c.if-same_request.true) Nak c.in-Nak.is) c.decline.ensures
+
+pub returns-in-Busy : goal.returns-in-Busy
+unfolding decide_policy
+returns-in-Busy c = let a = c.args in
+    same a.dock _ _ a.out.now _ _
+    (answer_policy a.dock a.request a.objects.now a.policy a.dock.standing _ c.in-Asking.is
+    (sym c.same_request.ensures ∙ c.if-same_request.true) Busy c.in-Busy.is) c.decline-in-Busy.ensures
+
+pub returns : goal.returns
+returns c = let a = c.args in
+    refuse a.dock _ 9 a.out.now _
+    (answer_other a.dock a.request a.objects.now a.policy a.dock.standing _ c.in-Asking.is
+    (sym c.same_request.ensures ∙ c.if-same_request.false)) c.refused-2.ensures

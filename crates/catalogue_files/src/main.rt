@@ -6,8 +6,7 @@ mod mend_file;
 mod read_file;
 mod read_record;
 
-use libc::STDOUT_FILENO;
-use streams::finish::{Finish, MOST, Turn, print_finish};
+use streams::finish::{Finish, MOST, STDOUT, Turn, print_finish};
 use streams::input::{Byte, read_byte};
 
 // The kinds of question.
@@ -42,6 +41,6 @@ fn answer_all() -> Finish {
 }
 
 fn main() {
-    io::write_all(STDOUT_FILENO, b"file answer\n");
+    io::write_all(STDOUT, b"file answer\n");
     print_finish(answer_all(), b" files\n");
 }

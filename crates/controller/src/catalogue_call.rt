@@ -21,8 +21,8 @@ pub extern "C" fn catalogue_write(
     length: &mut u16,
 ) -> u8
     ensures { CatalogueCall
-        (held_catalogue (own_of (side_from side) (port_from (lent state))).held (lent held_identity) (lent held_svids) (lent held_modes) (lent held_run))
-        (lent held_run) result out length }
+        (held_catalogue (own_of (side_from side) (port_from state.now)).held held_identity.now held_svids.now held_modes.now held_run.now)
+        held_run.now result out length }
 {
     let bytes = port::write_catalogue(
         port_from(state),

@@ -32,7 +32,7 @@ pub extern "C" fn catalogue_read(
     run: &mut [u32],
     sizes: &mut [u16; 3],
 ) -> u32
-    ensures { ReadCall (lent bytes) result svids modes identity run sizes }
+    ensures { ReadCall bytes.now result svids modes identity run sizes }
 {
     let read = read_catalogue(bytes, svids, modes, identity, run);
     if read.refusal != 0 {
@@ -45,7 +45,7 @@ pub extern "C" fn catalogue_read(
 // Finds the mode records of an SVID; `length` is the number of their bytes.
 #[unsafe(no_mangle)]
 pub extern "C" fn catalogue_stretch(bytes: &[u8], svid: u16, length: &mut u16) -> u32
-    ensures { StretchCall (lent bytes) svid result length }
+    ensures { StretchCall bytes.now svid result length }
 {
     let place = find_stretch(bytes, svid);
     if place.refusal != 0 {

@@ -46,7 +46,7 @@ pub extern "C" fn dock_load(
     new_svids: &[u16],
     length: &mut u8,
 ) -> u8
-    ensures { DockLoads (lent new_identity) (lent new_svids) result state identity svids length }
+    ensures { DockLoads new_identity.now new_svids.now result state identity svids length }
 {
     let before = *state;
     let step = loading::load(dock_from(before, identity, svids), new_identity, new_svids);
@@ -70,7 +70,7 @@ pub extern "C" fn dock_message(
     out: &mut [u8],
     length: &mut u8,
 ) -> u8
-    ensures { DockSends (λ d. decide_message d (read_outcome (lent bytes))) result state identity svids out length }
+    ensures { DockSends (λ d. decide_message d (read_outcome bytes.now)) result state identity svids out length }
 {
     let before = *state;
     let step = receiving::message(dock_from(before, identity, svids), bytes, out);
@@ -92,7 +92,7 @@ pub extern "C" fn dock_policy_answer(
     length: &mut u8,
 ) -> u8
     ensures { DockSends
-        (λ d. decide_policy_answer d d.standing (policy_from policy) (record { svid = svid; command = command; position = position }) (lent objects))
+        (λ d. decide_policy_answer d d.standing (policy_from policy) (record { svid = svid; command = command; position = position }) objects.now)
         result state identity svids out length }
 {
     let before = *state;

@@ -40,7 +40,7 @@ fn hear(
     held_run: &mut [u32],
     entered: &mut [u8; 72],
 ) -> laptop::Step
-    ensures { HeardOn (side_from side) (lent bytes) (lent state)
+    ensures { HeardOn (side_from side) bytes.now state.now
         (memory_lent svids modes identity run held_svids held_modes held_identity held_run entered) result }
 {
     hearing::message(
@@ -75,7 +75,7 @@ pub extern "C" fn laptop_message(
     entered: &mut [u8; 72],
     handed: &mut [u32; 8],
 ) -> u8
-    ensures { LaptopHears (side_from side) (lent bytes) result state
+    ensures { LaptopHears (side_from side) bytes.now result state
         (memory_lent svids modes identity run held_svids held_modes held_identity held_run entered) handed }
 {
     let heard = hear(
@@ -107,7 +107,7 @@ pub extern "C" fn laptop_report(
     held_svids: &[u16; 72],
     entered: &[u8; 72],
 ) -> u32
-    ensures { result ≡ reported (own_of (side_from side) (port_from (lent state))).held (lent held_svids) (lent entered) svid }
+    ensures { result ≡ reported (own_of (side_from side) (port_from state.now)).held held_svids.now entered.now svid }
 {
     port::report(port_from(state), side_from(side), svid, held_svids, entered)
 }

@@ -22,8 +22,8 @@ pub extern "C" fn laptop_next(
     handed: &mut [u32; 8],
 ) -> u8
     ensures { LaptopSends (side_from side)
-        (λ l. decide_next l (lent svids) (lent entered) (length (lent run)) (length (lent held_run)))
-        (length (lent run)) (length (lent held_run)) result state out handed }
+        (λ l. decide_next l svids.now entered.now (length run.now) (length held_run.now))
+        (length run.now) (length held_run.now) result state out handed }
 {
     let step = port::next(
         port_from(state),
@@ -50,8 +50,8 @@ pub extern "C" fn laptop_start_over(
     handed: &mut [u32; 8],
 ) -> u8
     ensures { LaptopSends (side_from side)
-        (λ l. decide_start_over l (lent entered) (length (lent run)) (length (lent held_run)))
-        (length (lent run)) (length (lent held_run)) result state out handed }
+        (λ l. decide_start_over l entered.now (length run.now) (length held_run.now))
+        (length run.now) (length held_run.now) result state out handed }
 {
     let step = port::start_over(
         port_from(state),
@@ -76,8 +76,8 @@ pub extern "C" fn laptop_drop(
     handed: &mut [u32; 8],
 ) -> u8
     ensures { LaptopSends (side_from side)
-        (λ l. decide_drop l (length (lent run)) (length (lent held_run)))
-        (length (lent run)) (length (lent held_run)) result state out handed }
+        (λ l. decide_drop l (length run.now) (length held_run.now))
+        (length run.now) (length held_run.now) result state out handed }
 {
     let step = port::drop(port_from(state), side_from(side), run, held_run, out);
     let after = step.port;
@@ -100,8 +100,8 @@ pub extern "C" fn laptop_enter(
     handed: &mut [u32; 8],
 ) -> u8
     ensures { LaptopSends (side_from side)
-        (λ l. decide_enter l (lent held_svids) (lent held_modes) (lent entered) (length (lent run)) (length (lent held_run)) svid position)
-        (length (lent run)) (length (lent held_run)) result state out handed }
+        (λ l. decide_enter l held_svids.now held_modes.now entered.now (length run.now) (length held_run.now) svid position)
+        (length run.now) (length held_run.now) result state out handed }
 {
     let step = port::enter(
         port_from(state),
@@ -135,8 +135,8 @@ pub extern "C" fn laptop_exit(
     handed: &mut [u32; 8],
 ) -> u8
     ensures { LaptopSends (side_from side)
-        (λ l. decide_exit l (lent held_svids) (lent held_modes) (lent entered) (length (lent run)) (length (lent held_run)) svid position)
-        (length (lent run)) (length (lent held_run)) result state out handed }
+        (λ l. decide_exit l held_svids.now held_modes.now entered.now (length run.now) (length held_run.now) svid position)
+        (length run.now) (length held_run.now) result state out handed }
 {
     let step = port::exit(
         port_from(state),

@@ -56,7 +56,7 @@ fn held_from(tag: u16, size: Size) -> Held
 // A side's nine numbers begin at the place.
 pub(crate) fn own_from(state: &[u16; 22], at: usize) -> Own
     requires { at ≤ 13 }
-    ensures { result ≡ own_from (lent state) at }
+    ensures { result ≡ own_from state.now at }
 {
     Own {
         candidate: candidate_from(state[at]),
@@ -69,13 +69,13 @@ pub(crate) fn own_from(state: &[u16; 22], at: usize) -> Own
 }
 
 pub(crate) fn wait_in(state: &[u16; 22]) -> Wait
-    ensures { result ≡ wait_in (lent state) }
+    ensures { result ≡ wait_in state.now }
 {
     wait_from(state[0], request_from(state[1], state[2], state[3]))
 }
 
 pub(crate) fn port_from(state: &[u16; 22]) -> Port
-    ensures { result ≡ port_from (lent state) }
+    ensures { result ≡ port_from state.now }
 {
     Port {
         wait: wait_in(state),

@@ -90,7 +90,7 @@ pub(crate) fn write_port(port: Port, state: &mut [u16; 22])
 
 // Do the numbers stand for the port?
 fn stands_for(state: &[u16; 22], port: Port) -> bool
-    ensures { result ≡ same_list (port_numbers (port_from (lent state))) (port_numbers port) }
+    ensures { result ≡ same_list (port_numbers (port_from state.now)) (port_numbers port) }
 {
     let wait = port.wait;
     if !same_wait(wait_in(state), wait) {

@@ -6,9 +6,8 @@ mod report;
 
 use dock::Dock;
 use event::unchanged;
-use libc::STDOUT_FILENO;
 use report::print_event;
-use streams::finish::{Finish, MOST, Turn, print_finish};
+use streams::finish::{Finish, MOST, STDOUT, Turn, print_finish};
 use streams::input::{Byte, GREATEST, length_of, read_byte};
 
 // The kind of the event that gives the output buffer another number of bytes. Module `event` has
@@ -107,7 +106,7 @@ fn answer_all() -> Finish {
 
 fn main() {
     io::write_all(
-        STDOUT_FILENO,
+        STDOUT,
         b"event refusal length buffer standing page count edition\n",
     );
     print_finish(answer_all(), b" events\n");

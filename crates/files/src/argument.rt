@@ -1,14 +1,26 @@
 // A word behind the program's name.
-use libc::PATH_MAX;
+use std::env::FillError;
+use std::rt::Env;
 
-// An argument that fills the room is longer than the name of any file.
-pub const ROOM: usize = PATH_MAX;
+// The longest path of the system, and the zero behind it. An argument that fills the room is longer than the name of any file.
+pub const ROOM: usize = 4096;
+
+// How many words the command line has, the program's own name among them.
+pub fn argument_count(rt: &HostRuntime) -> usize {
+    let mut first = [0u8; 1];
+    for index in 0..usize::MAX {
+        if let Err(FillError::NotPresent) = rt.arg(index, &mut first) {
+            return index;
+        }
+    }
+    usize::MAX
+}
 
 // Puts the argument at the start of the room and answers its length; one that is too long is cut, and fills the room.
-pub fn argument(index: usize, room: &mut [u8]) -> usize {
-    let length = os::arg(index, room);
-    if os::errno() == libc::ENAMETOOLONG {
-        return room.len();
+pub fn argument(rt: &HostRuntime, index: usize, room: &mut [u8]) -> usize {
+    match rt.arg(index, room) {
+        Ok(length) => length,
+        Err(FillError::TooLong) => room.len(),
+        Err(FillError::NotPresent) => 0,
     }
-    length
 }

@@ -1,7 +1,9 @@
 // The front of a file or of standard input, with a read that fails told from the end.
 use crate::argument::{ROOM, argument};
 use crate::naming::print_named;
-use libc::STDIN_FILENO;
+use crate::path::path_of;
+use std::fs::File;
+use std::io::Read;
 use streams::input::first_bytes;
 
 // How much of a file is read: what lies behind these bytes cannot change what is found, nor what is mended, proved as `front_decides` in
@@ -15,18 +17,14 @@ pub enum Input {
     Failed,
 }
 
-fn read_front(descriptor: i32, front: &mut [u8]) -> Input {
+fn read_front<R: Read>(reader: &mut R, front: &mut [u8]) -> Input {
     let mut end = 0;
     while end < front.len() {
-        let got = libc::read(descriptor, &mut front[end..]);
-        if got < 0 {
-            return Input::Failed;
+        match reader.read(&mut front[end..]) {
+            Ok(0) => return Input::Read(end),
+            Ok(more) => end += more,
+            Err(_) => return Input::Failed,
         }
-        let more = io::count(got, &front[end..]);
-        if more == 0 {
-            return Input::Read(end);
-        }
-        end += more;
     }
     Input::Read(end)
 }
@@ -39,26 +37,26 @@ pub fn is_dash(name: &[u8]) -> bool {
     false
 }
 
-fn read_front_of(name: &[u8], front: &mut [u8]) -> Input {
+fn read_front_of(rt: &HostRuntime, name: &[u8], front: &mut [u8]) -> Input {
     if is_dash(name) {
-        return read_front(STDIN_FILENO, front);
+        return read_front(&mut rt.stdin(), front);
     }
-    let descriptor = os::open_read(name);
-    if descriptor < 0 {
+    let Ok(path) = path_of(name) else {
         return Input::Failed;
-    }
-    let input = read_front(descriptor, front);
-    libc::close(descriptor);
-    input
+    };
+    let Ok(mut file) = File::open(rt, path) else {
+        return Input::Failed;
+    };
+    read_front(&mut file, front)
 }
 
 // The front of the file that an argument names. A line says where it cannot be read.
-pub fn read_named(index: usize, front: &mut [u8]) -> Input {
+pub fn read_named(rt: &HostRuntime, index: usize, front: &mut [u8]) -> Input {
     let mut buffer = [0u8; ROOM];
     let room: &mut [u8] = &mut buffer;
-    let length = argument(index, room);
+    let length = argument(rt, index, room);
     let name = first_bytes(room, length);
-    let input = read_front_of(name, front);
+    let input = read_front_of(rt, name, front);
     match input {
         Input::Failed => print_named(b"cannot read ", name),
         _ => {}

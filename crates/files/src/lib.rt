@@ -4,4 +4,5 @@
 pub mod argument;
 pub mod input;
 pub mod naming;
+pub mod path;
 pub mod verdict;

@@ -1,9 +1,6 @@
 -- What is no awaited answer: requests, and answers that do not fit.
-use types.Run.{OneOf, miss}
-use denote.Enum.Declared.{tag_of}
 use mathlib.Core.Path.{◌≡◌, refl, ap, sym}
 use mathlib.Core.Bool.{true, false, ◌&&◌}
-use mathlib.Core.List.{[], ◌∷◌}
 use Prim.Native.Nat.{ℕ}
 use lib.Dec.{eqb}
 use borrow.Author.Tests.{ne_eqb}
@@ -19,7 +16,6 @@ use Rattle.laptop.specs.declared.Laptop.{Laptop}
 use Rattle.laptop.specs.declared.Told.TheVariants.{Attention}
 use Rattle.laptop.specs.declared.Wait.{Wait}
 use Rattle.laptop.specs.declared.Wait.TheVariants.{Nothing, Answer}
-use Rattle.laptop.specs.contracts.Candidate.{the_type}
 
 module _ (l : Laptop) (h : Head) (count object : ℕ) where
   pub request_attention : h.command ≡ 6 → accepted_with (Attention (notice_of h count object)) l ≡ hear_request l h count object
@@ -38,13 +34,13 @@ module _ (l : Laptop) (h : Head) where
   unfolding is_late_page
   late_awaited r e = rw e
 
-  pub late_not_open : l.wait ≡ Nothing → OneOf (0 ∷ 2 ∷ []) (tag_of the_type l.candidate) → false ≡ is_late_page l h
+  pub late_not_open : l.wait ≡ Nothing → (l.candidate ≡ Open → ⊥) → false ≡ is_late_page l h
   unfolding is_late_page
   late_not_open e k = rw e (go l.candidate k)
     where
-      go : (s : Candidate) → OneOf (0 ∷ 2 ∷ []) (tag_of the_type s) → false ≡ (is_open s && (eqb h.command 2 && eqb h.kind 1))
+      go : (s : Candidate) → (s ≡ Open → ⊥) → false ≡ (is_open s && (eqb h.command 2 && eqb h.kind 1))
       go Absent o = refl
-      go Open o = absurd (miss (0 ∷ 2 ∷ []) 1 tt o)
+      go Open o = absurd (o refl)
       go Done o = refl
 
   pub late_command : l.wait ≡ Nothing → l.candidate ≡ Open → (h.command ≡ 2 → ⊥) → false ≡ is_late_page l h

@@ -7,9 +7,8 @@ mod report;
 
 use answering::{begin, take};
 use event::{LONGEST_MESSAGE, Taken, take_event};
-use libc::STDOUT_FILENO;
 use report::print_event;
-use streams::finish::{Finish, MOST, Turn, print_finish};
+use streams::finish::{Finish, MOST, STDOUT, Turn, print_finish};
 
 // Answers a stream, whose port is fresh, after so many events of the streams before it.
 fn answer_stream(stream: u64, before: u64) -> Finish {
@@ -51,11 +50,11 @@ fn answer_all() -> Finish {
 
 fn main() {
     io::write_all(
-        STDOUT_FILENO,
+        STDOUT,
         b"stream event side refusal sent output told awaited candidate pages held edition",
     );
     io::write_all(
-        STDOUT_FILENO,
+        STDOUT,
         b" candidate_run held_run catalogue report other_candidate other_pages other_held other_edition\n",
     );
     print_finish(answer_all(), b" events\n");

@@ -11,10 +11,9 @@ mod system;
 
 use begin::begin;
 use event::{Taken, take_event};
-use libc::STDOUT_FILENO;
 use linking::start::read_start;
 use report::print_event;
-use streams::finish::{Finish, MOST, Turn, print_finish};
+use streams::finish::{Finish, MOST, STDOUT, Turn, print_finish};
 use system::{Ends, take};
 
 // Answers the events of a stream, after so many events of the streams before it.
@@ -71,7 +70,7 @@ fn answer_all() -> Finish {
 fn print_last(finish: Finish) {
     let turn = finish.turn;
     if let Turn::BadStart = turn {
-        io::write_all(STDOUT_FILENO, b"bad dock data\n");
+        io::write_all(STDOUT, b"bad dock data\n");
         return;
     }
     print_finish(finish, b" events\n");
@@ -79,11 +78,11 @@ fn print_last(finish: Finish) {
 
 fn main() {
     io::write_all(
-        STDOUT_FILENO,
+        STDOUT,
         b"stream event side permitted refusal pages candidate held catalogue page lost",
     );
     io::write_all(
-        STDOUT_FILENO,
+        STDOUT,
         b" edition dock_edition other_pages other_candidate other_held other_edition\n",
     );
     print_last(answer_all());

@@ -6,7 +6,7 @@ mod names;
 mod report;
 mod saving;
 
-use files::argument::{ROOM, argument};
+use files::argument::{ROOM, argument, argument_count};
 use files::input::{FRONT, Input, read_named};
 use mending_file::mend_into;
 use names::is_file_name;
@@ -20,30 +20,30 @@ const IN: usize = 1;
 
 const OUT: usize = 2;
 
-fn mend_file(out: &[u8]) {
+fn mend_file(rt: &HostRuntime, out: &[u8]) {
     let mut bytes = [0u8; FRONT];
     let front: &mut [u8] = &mut bytes;
-    let Input::Read(end) = read_named(IN, front) else {
+    let Input::Read(end) = read_named(rt, IN, front) else {
         return;
     };
-    mend_into(first_bytes(front, end), out);
+    mend_into(rt, first_bytes(front, end), out);
 }
 
-fn mend_named() {
+fn mend_named(rt: &HostRuntime) {
     let mut buffer = [0u8; ROOM];
     let room: &mut [u8] = &mut buffer;
-    let length = argument(OUT, room);
+    let length = argument(rt, OUT, room);
     let out = first_bytes(room, length);
     if is_file_name(out) {
-        mend_file(out);
+        mend_file(rt, out);
     } else {
         print_no_name(out);
     }
 }
 
-fn main() {
-    match os::arg_count() {
-        WORDS => mend_named(),
+fn main(rt: HostRuntime) {
+    match argument_count(&rt) {
+        WORDS => mend_named(&rt),
         _ => print_usage(),
     }
 }

@@ -11,11 +11,11 @@ use text::line::append;
 const LONGEST: usize = 2402;
 
 // Saves the bytes in the file OUT with an ending behind its name, or says that it cannot.
-fn save_as(out: &[u8], ending: &[u8], bytes: &[u8]) -> bool {
+fn save_as(rt: &HostRuntime, out: &[u8], ending: &[u8], bytes: &[u8]) -> bool {
     let mut buffer = [0u8; NAME_ROOM];
     let at = append(&mut buffer, 0, out);
     let end = append(&mut buffer, at, ending);
-    if save(first_bytes(&buffer, end), bytes) {
+    if save(rt, first_bytes(&buffer, end), bytes) {
         return true;
     }
     print_unwritten(out);
@@ -23,18 +23,18 @@ fn save_as(out: &[u8], ending: &[u8], bytes: &[u8]) -> bool {
 }
 
 // What is mended goes into OUT where the file was sound, and never otherwise.
-pub fn mend_into(bytes: &[u8], out: &[u8]) {
+pub fn mend_into(rt: &HostRuntime, bytes: &[u8], out: &[u8]) {
     let mut buffer = [0u8; LONGEST];
     let mended = mend_catalogue(bytes, &mut buffer);
     match mended {
         Mended::Refused(refusal) => print_refused(refusal),
         Mended::Sound(kept) => {
-            if save_as(out, b"", first_bytes(&buffer, kept.length)) {
+            if save_as(rt, out, b"", first_bytes(&buffer, kept.length)) {
                 print_sound();
             }
         }
         Mended::Partial(fault, kept) => {
-            if save_as(out, b".partial", first_bytes(&buffer, kept.length)) {
+            if save_as(rt, out, b".partial", first_bytes(&buffer, kept.length)) {
                 print_partial(fault, kept);
             }
         }

@@ -1,11 +1,11 @@
 // The program's lines.
-use files::naming::print_named;
+use files::naming::{STDERR, print_named};
 use files::verdict::{print_counts, print_fault};
-use libc::{STDERR_FILENO, STDOUT_FILENO};
 use mending::{Fault, Kept};
+use streams::finish::STDOUT;
 
 pub fn print_usage() {
-    io::write_all(STDOUT_FILENO, b"usage: mend IN OUT\n");
+    io::write_all(STDOUT, b"usage: mend IN OUT\n");
 }
 
 pub fn print_unwritten(out: &[u8]) {
@@ -14,16 +14,16 @@ pub fn print_unwritten(out: &[u8]) {
 
 // The system is not asked, so the reason is our own.
 pub fn print_no_name(out: &[u8]) {
-    io::write_all(STDERR_FILENO, b"OUT must be the name of a file\n");
+    io::write_all(STDERR, b"OUT must be the name of a file\n");
     print_unwritten(out);
 }
 
 pub fn print_sound() {
-    io::write_all(STDOUT_FILENO, b"sound\n");
+    io::write_all(STDOUT, b"sound\n");
 }
 
 pub fn print_partial(fault: Fault, kept: Kept) {
     print_fault(b"fault ", fault.number, fault.at);
     print_counts(b"kept ", kept.svids, kept.modes);
-    io::write_all(STDOUT_FILENO, b"partial\n");
+    io::write_all(STDOUT, b"partial\n");
 }

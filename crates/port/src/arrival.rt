@@ -21,7 +21,7 @@ pub fn message(
     held_run: &mut [u32],
     entered: &mut [u8; 72],
 ) -> Step
-    ensures { HearsOn side port (lent bytes) (memory_lent svids modes identity run held_svids held_modes held_identity held_run entered) result }
+    ensures { HearsOn side port bytes.now (memory_lent svids modes identity run held_svids held_modes held_identity held_run entered) result }
 {
     let step = hearing::message(
         seen(side, port),

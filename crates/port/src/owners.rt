@@ -12,7 +12,7 @@ use crate::{Port, Side, Step, Wait};
 use laptop::{refused, short_runs};
 
 fn owners_refusal(port: Port, run: &[u32], held_run: &[u32]) -> u8
-    ensures { result ≡ owners_refusal port (length (lent run)) (length (lent held_run)) }
+    ensures { result ≡ owners_refusal port (length run.now) (length held_run.now) }
 {
     if short_runs(run, held_run) {
         return 11;
@@ -41,7 +41,7 @@ pub fn next(
     held_run: &[u32],
     out: &mut [u8],
 ) -> Step
-    ensures { Owners side port (λ l. decide_next l (lent svids) (lent entered) (length (lent run)) (length (lent held_run))) (lent run) (lent held_run) (lent out) result (left out) }
+    ensures { Owners side port (λ l. decide_next l svids.now entered.now (length run.now) (length held_run.now)) run.now held_run.now (lent out) result (left out) }
 {
     let number = owners_refusal(port, run, held_run);
     if number != 0 {
@@ -63,7 +63,7 @@ pub fn start_over(
     held_run: &[u32],
     out: &mut [u8],
 ) -> Step
-    ensures { Owners side port (λ l. decide_start_over l (lent entered) (length (lent run)) (length (lent held_run))) (lent run) (lent held_run) (lent out) result (left out) }
+    ensures { Owners side port (λ l. decide_start_over l entered.now (length run.now) (length held_run.now)) run.now held_run.now (lent out) result (left out) }
 {
     let number = owners_refusal(port, run, held_run);
     if number != 0 {
@@ -78,7 +78,7 @@ pub fn start_over(
 
 // Drops the side's candidate. Nothing is sent: the output buffer stays as it is.
 pub fn drop(port: Port, side: Side, run: &[u32], held_run: &[u32], out: &mut [u8]) -> Step
-    ensures { Owners side port (λ l. decide_drop l (length (lent run)) (length (lent held_run))) (lent run) (lent held_run) (lent out) result (left out) }
+    ensures { Owners side port (λ l. decide_drop l (length run.now) (length held_run.now)) run.now held_run.now (lent out) result (left out) }
 {
     let number = owners_refusal(port, run, held_run);
     if number != 0 {
@@ -104,8 +104,8 @@ pub fn enter(
     out: &mut [u8],
 ) -> Step
     ensures { Owners side port
-        (λ l. decide_enter l (lent held_svids) (lent held_modes) (lent entered) (length (lent run)) (length (lent held_run)) svid position)
-        (lent run) (lent held_run) (lent out) result (left out) }
+        (λ l. decide_enter l held_svids.now held_modes.now entered.now (length run.now) (length held_run.now) svid position)
+        run.now held_run.now (lent out) result (left out) }
 {
     let number = owners_refusal(port, run, held_run);
     if number != 0 {
@@ -138,8 +138,8 @@ pub fn exit(
     out: &mut [u8],
 ) -> Step
     ensures { Owners side port
-        (λ l. decide_exit l (lent held_svids) (lent held_modes) (lent entered) (length (lent run)) (length (lent held_run)) svid position)
-        (lent run) (lent held_run) (lent out) result (left out) }
+        (λ l. decide_exit l held_svids.now held_modes.now entered.now (length run.now) (length held_run.now) svid position)
+        run.now held_run.now (lent out) result (left out) }
 {
     let number = owners_refusal(port, run, held_run);
     if number != 0 {

@@ -11,7 +11,7 @@ use catalogue::Bytes;
 
 // How many modes of the SVID are entered on the side, 0 if it is not held there.
 pub fn report(port: Port, side: Side, svid: u16, held_svids: &[u16; 72], entered: &[u8; 72]) -> u32
-    ensures { result ≡ reported (own_of side port).held (lent held_svids) (lent entered) svid }
+    ensures { result ≡ reported (own_of side port).held held_svids.now entered.now svid }
 {
     laptop::report(seen(side, port), svid, held_svids, entered)
 }
@@ -27,8 +27,8 @@ pub fn write_catalogue(
     out: &mut [u8],
 ) -> Bytes
     ensures { CatalogueWritten
-        (held_catalogue (own_of side port).held (lent held_identity) (lent held_svids) (lent held_modes) (lent held_run))
-        (length (lent held_run)) (lent out) result (left out) }
+        (held_catalogue (own_of side port).held held_identity.now held_svids.now held_modes.now held_run.now)
+        (length held_run.now) (lent out) result (left out) }
 {
     catalogue::write_catalogue(
         seen(side, port),

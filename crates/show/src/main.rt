@@ -6,7 +6,7 @@ mod printing;
 mod showing;
 
 use argument::{Asked, svid_asked};
-use files::argument::{ROOM, argument};
+use files::argument::{ROOM, argument, argument_count};
 use files::input::{FRONT, Input, read_named};
 use files::naming::print_named;
 use printing::print_usage;
@@ -22,31 +22,31 @@ const NAME: usize = 1;
 
 const SVID: usize = 2;
 
-fn show_file(asked: Asked) {
+fn show_file(rt: &HostRuntime, asked: Asked) {
     let mut bytes = [0u8; FRONT];
     let front: &mut [u8] = &mut bytes;
-    let Input::Read(end) = read_named(NAME, front) else {
+    let Input::Read(end) = read_named(rt, NAME, front) else {
         return;
     };
     show(first_bytes(front, end), asked);
 }
 
-fn show_svid_of_file() {
+fn show_svid_of_file(rt: &HostRuntime) {
     let mut buffer = [0u8; ROOM];
     let room: &mut [u8] = &mut buffer;
-    let length = argument(SVID, room);
+    let length = argument(rt, SVID, room);
     let text = first_bytes(room, length);
     let asked = svid_asked(text);
     match asked {
         Asked::Malformed => print_named(b"not an SVID: ", text),
-        _ => show_file(asked),
+        _ => show_file(rt, asked),
     }
 }
 
-fn main() {
-    match os::arg_count() {
-        WITHOUT_SVID => show_file(Asked::All),
-        WITH_SVID => show_svid_of_file(),
+fn main(rt: HostRuntime) {
+    match argument_count(&rt) {
+        WITHOUT_SVID => show_file(&rt, Asked::All),
+        WITH_SVID => show_svid_of_file(&rt),
         _ => print_usage(),
     }
 }

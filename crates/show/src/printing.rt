@@ -1,6 +1,6 @@
 // The lines of a sound file. Each is built in a buffer with room for the longest of its kind.
-use libc::STDOUT_FILENO;
 use records::{Found, Record, record_from};
+use streams::finish::STDOUT;
 use text::line::{append, append_half, append_spaced_word, append_words, end_line};
 
 // "identity", six words of a space and eight digits each, and the line end.
@@ -10,7 +10,7 @@ const LONGEST: usize = 63;
 const MODE_RECORD: usize = 5;
 
 pub fn print_usage() {
-    io::write_all(STDOUT_FILENO, b"usage: show FILE [SVID]\n");
+    io::write_all(STDOUT, b"usage: show FILE [SVID]\n");
 }
 
 pub fn print_identity(objects: &[u32]) {

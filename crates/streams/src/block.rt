@@ -1,8 +1,7 @@
 // Standard input in blocks: a buffer that the caller lends, so that one call of the C library reads many events.
 ghost use Rattle.std.specs.Prelude.{◌≤◌, length};
 
-use crate::input::first_bytes;
-use libc::STDIN_FILENO;
+use crate::input::{STDIN, first_bytes};
 
 // The part of a block of input that is read and not yet taken, and whether the input ended behind it.
 #[derive(Clone, Copy)]
@@ -69,7 +68,7 @@ fn move_to_front(block: &mut [u8], unread: Unread) -> usize
 fn read_behind(block: &mut [u8], kept: usize) -> Unread
     requires { kept ≤ length block.old }
 {
-    let more = io::read_full(STDIN_FILENO, &mut block[kept..]);
+    let more = io::read_full(STDIN, &mut block[kept..]);
     let end = kept + more;
     Unread {
         start: 0,

@@ -1,5 +1,6 @@
 // A stream of vectors or events on standard input: how many are answered, and how it ended.
-use libc::STDOUT_FILENO;
+// The number of standard output among the open files.
+pub const STDOUT: i32 = 1;
 
 // A proved loop has to end, and nothing says that the input does. So after this many answers the input counts as ended, and after this many streams.
 pub const MOST: u64 = 1000000;
@@ -25,9 +26,9 @@ pub struct Finish {
 
 fn write_turn(turn: Turn) {
     match turn {
-        Turn::Unknown => io::write_all(STDOUT_FILENO, b"unknown kind after "),
-        Turn::Cut => io::write_all(STDOUT_FILENO, b"cut after "),
-        _ => io::write_all(STDOUT_FILENO, b"end "),
+        Turn::Unknown => io::write_all(STDOUT, b"unknown kind after "),
+        Turn::Cut => io::write_all(STDOUT, b"cut after "),
+        _ => io::write_all(STDOUT, b"end "),
     };
 }
 
@@ -36,6 +37,6 @@ fn write_turn(turn: Turn) {
 pub fn print_finish(finish: Finish, name: &[u8]) {
     let turn = finish.turn;
     write_turn(turn);
-    io::print_decimal(STDOUT_FILENO, finish.answered);
-    io::write_all(STDOUT_FILENO, name);
+    io::print_decimal(STDOUT, finish.answered);
+    io::write_all(STDOUT, name);
 }

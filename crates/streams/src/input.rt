@@ -1,7 +1,8 @@
 // Reading standard input, and the numbers that its bytes give, low byte first.
 ghost use Rattle.std.specs.Prelude.{◌≤◌};
 
-use libc::STDIN_FILENO;
+// The number of standard input among the open files.
+pub const STDIN: i32 = 0;
 
 // The greatest length that a byte gives.
 pub const GREATEST: usize = 255;
@@ -9,7 +10,7 @@ pub const GREATEST: usize = 255;
 // Fills the buffer and answers true, or answers false where the input ends before that.
 pub fn fill(buffer: &mut [u8]) -> bool {
     let wanted = buffer.len();
-    io::read_full(STDIN_FILENO, buffer) == wanted
+    io::read_full(STDIN, buffer) == wanted
 }
 
 // A byte as a length. A cast in the caller would leave it to be proved there that it is at most

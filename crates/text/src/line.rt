@@ -1,12 +1,13 @@
 // One line of output, built in a buffer that the caller lends, so that one call writes it. Each
 // function that adds to the line puts its text at `at` and answers where that text ends.
-use libc::STDOUT_FILENO;
+// The number of standard output among the open files.
+const STDOUT: i32 = 1;
 
 // A part is written `0..end` in this crate, and not `..end`, since Rattle then proves its length with no proof file. `end` lies within every line:
 // testing it spares the callers the proof.
 pub fn print_line(line: &[u8], end: usize) {
     if end <= line.len() {
-        io::write_all(STDOUT_FILENO, &line[0..end]);
+        io::write_all(STDOUT, &line[0..end]);
     }
 }
 

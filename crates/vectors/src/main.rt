@@ -5,8 +5,7 @@
 mod read_vector;
 mod write_vector;
 
-use libc::STDOUT_FILENO;
-use streams::finish::{Finish, MOST, Turn, print_finish};
+use streams::finish::{Finish, MOST, STDOUT, Turn, print_finish};
 use streams::input::{Byte, read_byte};
 use text::line::{append, append_decimal};
 
@@ -52,6 +51,6 @@ fn answer_all() -> Finish {
 }
 
 fn main() {
-    io::write_all(STDOUT_FILENO, b"vector answer\n");
+    io::write_all(STDOUT, b"vector answer\n");
     print_finish(answer_all(), b" vectors\n");
 }

@@ -9,9 +9,8 @@ use acting::{act, side_of};
 use events::Found;
 use laptop::RUN_WORDS;
 use lending::{bytes_of, identity_of, run_of, svids_of};
-use libc::STDOUT_FILENO;
 use state::{State, answered, begin, find_next};
-use streams::finish::{Finish, MOST, Turn, print_finish};
+use streams::finish::{Finish, MOST, STDOUT, Turn, print_finish};
 use text::line::print_line;
 
 // How many bytes are read or written at once.
@@ -87,6 +86,6 @@ fn answer_all() -> Finish {
 }
 
 fn main() {
-    io::write_all(STDOUT_FILENO, b"event refusal sent pages held\n");
+    io::write_all(STDOUT, b"event refusal sent pages held\n");
     print_finish(answer_all(), b" events\n");
 }

@@ -1,0 +1,9 @@
+// The name of a file as the library takes it, which is UTF-8 text.
+use std::io::{Error, ErrorKind};
+
+pub fn path_of(name: &[u8]) -> Result<&str, Error> {
+    match str::from_utf8(name) {
+        Ok(path) => Ok(path),
+        Err(_) => Err(Error::new(ErrorKind::InvalidInput, "The name is not UTF-8")),
+    }
+}

@@ -75,6 +75,12 @@ class Counting(unittest.TestCase):
         code = "start:\n lea rax, [rip+.Ltable]\n movsxd rcx, dword ptr [rax+rdi*4]\n add rcx, rax\n jmp rcx\n"
         self.counts(code + ".La:\n push rax\n pop rax\n.Lb:\n ret\n" + table, 16, "start")
 
+    def test_two_jump_tables(self):
+        table = '.section .rodata.start,"a",@progbits\n.Lfirst:\n.long .La-.Lfirst\n.long .Lb-.Lfirst\n.Lsecond:\n.long .Lb-.Lsecond\n.long .Lc-.Lsecond'
+        code = "start:\n lea rax, [rip+.Lfirst]\n movsxd rcx, dword ptr [rax+rdi*4]\n add rcx, rax\n jmp rcx\n"
+        code += ".La:\n nop\n.Lb:\n lea rax, [rip+.Lsecond]\n movsxd rcx, dword ptr [rax+rdi*4]\n add rcx, rax\n jmp rcx\n"
+        self.counts(code.replace(".Lb:\n", ".Lb:\n test eax, eax\n je .Lc\n") + ".Lc:\n push rax\n pop rax\n ret\n" + table, 16, "start")
+
     def test_function_of_the_c_library(self):
         self.counts("start:\n push rax\n call memcpy@PLT\n pop rax\n ret", 16 + 8, "start memcpy")
 

@@ -25,7 +25,7 @@ class Instruction:
 @dataclass
 class Library:
     functions: dict = field(default_factory=dict)
-    # by its section: the function and offset of each entry of a jump table
+    # by their section: of each entry of its jump tables, the function and offset that it has, and its own place
     tables: dict = field(default_factory=dict)
 
 
@@ -61,7 +61,6 @@ def read_functions(text):
 
 
 def read_tables(text):
-    """A table's entries are distances from its start, so an entry's own place is taken off."""
     tables, entries = {}, None
     for line in text.splitlines():
         if found := TABLE.match(line):
@@ -70,7 +69,7 @@ def read_tables(text):
             entries = None
         elif entries is not None and (found := ENTRY.match(line)) and found[2].startswith("R_"):
             name, offset = symbol_of(found[3])
-            entries.append((name, offset - int(found[1], 16)))
+            entries.append((name, offset, int(found[1], 16)))
     return tables
 
 

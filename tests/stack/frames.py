@@ -118,11 +118,24 @@ class Walk:
 
     def table(self, instruction):
         """Where a jump by a table may go: every entry of each table that the function names has to lie in the function."""
-        named = [self.tables[i.symbol] for i in self.body if self.tables.get(i.symbol)]
-        entries = [entry for table in named for entry in table]
+        entries = [entry for section, starts in self.starts().items() for entry in self.entries(section, starts)]
         if not entries or any(name != self.name for name, _ in entries):
             self.fail(instruction, "a jump through a pointer, and no table of places in the function")
         return [at for _, at in entries]
+
+    def starts(self):
+        """The places, by section, where the function's tables start: those that it names."""
+        found = {}
+        for instruction in self.body:
+            if self.tables.get(instruction.symbol):
+                found.setdefault(instruction.symbol, {0}).add(instruction.offset + 4)
+        return found
+
+    def entries(self, section, starts):
+        """An entry is a distance from its table's start, so its own place in its table is taken off."""
+        for name, offset, place in self.tables[section]:
+            start = max(start for start in starts if start <= place)
+            yield name, offset - (place - start)
 
 
 def chain(name, library, frames, above=()):

@@ -9,8 +9,8 @@ import frames
 # No limit may be over this.
 MOST = 512
 LIMITS = pathlib.Path(__file__).with_name("limits")
-LIBRARY = "target/staticlib/libcontroller.a"
-EXPORTED = re.compile(r'#\[no_mangle\]\s+pub extern "C" fn (\w+)')
+LIBRARY = "crates/controller/out/libcontroller.a"
+EXPORTED = re.compile(r'#\[unsafe\(no_mangle\)\]\s+pub extern "C" fn (\w+)')
 PUBLIC = re.compile(r"^pub (?:use \w+::|fn )([a-z]\w*)", re.MULTILINE)
 # No calls of 01: parts that stand between crates, in whose callers' frames they are counted.
 PARTS = {

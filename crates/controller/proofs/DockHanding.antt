@@ -26,7 +26,7 @@ module _ {step : Step} {number : ℕ} {inner state : Lent (List ℕ)} {inner_byt
         bytes_is = sym bytes_left ∙ h.bytes_is ∙ ap₂ (λ (s : Step) (before : ℕ). accepted number s.length before) e bytes_lent;
       }
 
-  module _ {identity svids : Lent (List ℕ)} {d : Dock} (dock_is : d ≡ dock_lent state identity svids) where
+  module _ {identity svids : List ℕ} {d : Dock} (dock_is : d ≡ dock_lent state identity svids) where
     pub sends_nothing_in : {decide : Dock → Decision} → step ≡ step_of d (decide d) 0 → DockSendsNothing decide number state identity svids bytes
     sends_nothing_in {decide} e = record { step_is = step_in _ (e ∙ ap (λ (x : Dock). step_of x (decide x) 0) dock_is) }
 
@@ -38,6 +38,7 @@ module _ {step : Step} {number : ℕ} {inner state : Lent (List ℕ)} {inner_byt
           buffer_is = s.buffer_is ∙ ap (λ (x : Dock). buffer_of (decide x) (lent out)) dock_is;
         }
 
+  module _ {identity svids : Lent (List ℕ)} {d : Dock} (dock_is : d ≡ dock_lent state (lent identity) (lent svids)) where
     pub loads_written : {new_identity new_svids : List ℕ} → step ≡ load_step d new_identity new_svids → number ≡ 0 →
         left identity ≡ step.dock.identity → left svids ≡ step.dock.svids → DockLoads new_identity new_svids number state identity svids bytes
     loads_written {new_identity} {new_svids} e z ei ev =

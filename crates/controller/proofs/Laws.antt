@@ -66,7 +66,7 @@ pub after_left_alone : (side : Side) (before : List ℕ) → numbers_after befor
 after_left_alone side before = ap (numbers_after before) (put_back_seen side (port_from before)) ∙ numbers_stay before
 
 -- a refusal of a dock's call leaves all that was lent
-module _ {decide : Dock → Decision} {number : ℕ} {state identity svids : Lent (List ℕ)} {bytes : Lent ℕ} (refused : number ≡ 0 → ⊥) where
+module _ {decide : Dock → Decision} {number : ℕ} {state : Lent (List ℕ)} {identity svids : List ℕ} {bytes : Lent ℕ} (refused : number ≡ 0 → ⊥) where
   pub dock_sends_nothing_refusal : DockSendsNothing decide number state identity svids bytes → (left state ≡ lent state) × (left bytes ≡ lent bytes)
   dock_sends_nothing_refusal p = dock_step_left p.step_is refused
 
@@ -173,8 +173,8 @@ catalogue_mend_sound {bytes} {result} {out} zero p = go (number_given_lem bytes 
     go (inr (inr e)) z = sym e ∙ z
 
 -- of two results that a promise allows of one call, lent the same, all that is returned and left is the same
-module _ {decide : Dock → Decision} {number number' : ℕ} {state identity svids : Lent (List ℕ)} {bytes : Lent ℕ} {state' : MutBor (List ℕ)}
-    {bytes' : MutBor ℕ} where
+module _ {decide : Dock → Decision} {number number' : ℕ} {state : Lent (List ℕ)} {identity svids : List ℕ} {bytes : Lent ℕ}
+    {state' : MutBor (List ℕ)} {bytes' : MutBor ℕ} where
   pub dock_sends_nothing_only : DockSendsNothing decide number state identity svids bytes →
       DockSendsNothing decide number' (leaving state state') identity svids (leaving bytes bytes') →
       (number ≡ number') × (left state ≡ state'.now) × (left bytes ≡ bytes'.now)

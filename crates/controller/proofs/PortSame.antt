@@ -1,6 +1,4 @@
 -- Two ports held against each other: their numbers are the same where each part is.
-use types.Run.{OneOf, miss}
-use denote.Enum.Declared.{tag_of}
 use mathlib.Core.Path.{◌≡◌, refl, ap, sym, ◌∙◌}
 use mathlib.Core.Bool.{Bool, true, false, not, ◌&&◌, and-true, and_assoc}
 use mathlib.Core.List.{List, [], ◌∷◌, ◌++◌}
@@ -13,7 +11,6 @@ use borrow.Author.Tests.{eq-eqb, ne_eqb, not-true, not-false}
 use Rattle.messages.specs.Editions.{edition_number}
 use Rattle.messages.specs.declared.edition.Edition.{Edition}
 use Rattle.messages.specs.declared.edition.Edition.TheVariants.{OneZero, TwoZero, TwoOne}
-use Rattle.messages.specs.contracts.edition.Edition.{the_type}
 use Rattle.messages.specs.Requests.{same_request}
 use Rattle.messages.specs.declared.request.Request.{Request}
 use Rattle.taking.specs.Taking.{same_list}
@@ -39,28 +36,28 @@ is_not b x = false ≡ eqb (edition_number x) (edition_number b)
 first_is : (a b : Edition) {x : Edition} → a ≡ x → is_not b x → is_not b a
 first_is a b e h = h ∙ ap (λ (y : Edition). eqb (edition_number y) (edition_number b)) (sym e)
 
-not_one_zero : (b : Edition) → OneOf (1 ∷ 2 ∷ []) (tag_of the_type b) → is_not b OneZero
-not_one_zero OneZero k = absurd (miss (1 ∷ 2 ∷ []) 0 tt k)
+not_one_zero : (b : Edition) → (b ≡ OneZero → ⊥) → is_not b OneZero
+not_one_zero OneZero k = absurd (k refl)
 not_one_zero TwoZero k = refl
 not_one_zero TwoOne k = refl
 
-not_two_zero : (b : Edition) → OneOf (0 ∷ 2 ∷ []) (tag_of the_type b) → is_not b TwoZero
+not_two_zero : (b : Edition) → (b ≡ TwoZero → ⊥) → is_not b TwoZero
 not_two_zero OneZero k = refl
-not_two_zero TwoZero k = absurd (miss (0 ∷ 2 ∷ []) 1 tt k)
+not_two_zero TwoZero k = absurd (k refl)
 not_two_zero TwoOne k = refl
 
-not_two_one : (b : Edition) → OneOf (0 ∷ 1 ∷ []) (tag_of the_type b) → is_not b TwoOne
+not_two_one : (b : Edition) → (b ≡ TwoOne → ⊥) → is_not b TwoOne
 not_two_one OneZero k = refl
 not_two_one TwoZero k = refl
-not_two_one TwoOne k = absurd (miss (0 ∷ 1 ∷ []) 2 tt k)
+not_two_one TwoOne k = absurd (k refl)
 
-pub one_zero_only : (a b : Edition) → a ≡ OneZero → OneOf (1 ∷ 2 ∷ []) (tag_of the_type b) → false ≡ eqb (edition_number a) (edition_number b)
+pub one_zero_only : (a b : Edition) → a ≡ OneZero → (b ≡ OneZero → ⊥) → false ≡ eqb (edition_number a) (edition_number b)
 one_zero_only a b e k = first_is a b e (not_one_zero b k)
 
-pub two_zero_only : (a b : Edition) → a ≡ TwoZero → OneOf (0 ∷ 2 ∷ []) (tag_of the_type b) → false ≡ eqb (edition_number a) (edition_number b)
+pub two_zero_only : (a b : Edition) → a ≡ TwoZero → (b ≡ TwoZero → ⊥) → false ≡ eqb (edition_number a) (edition_number b)
 two_zero_only a b e k = first_is a b e (not_two_zero b k)
 
-pub two_one_only : (a b : Edition) → a ≡ TwoOne → OneOf (0 ∷ 1 ∷ []) (tag_of the_type b) → false ≡ eqb (edition_number a) (edition_number b)
+pub two_one_only : (a b : Edition) → a ≡ TwoOne → (b ≡ TwoOne → ⊥) → false ≡ eqb (edition_number a) (edition_number b)
 two_one_only a b e k = first_is a b e (not_two_one b k)
 
 -- two sizes

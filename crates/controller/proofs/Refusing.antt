@@ -37,7 +37,7 @@ pub dock_step_left : {step : DockAsStep} {number : ℕ} {state : Lent (List ℕ)
     (left state ≡ lent state) × (left bytes ≡ lent bytes)
 dock_step_left p refused = (refused_kept _ refused p.state_is, refused_kept _ refused p.bytes_is)
 
-pub dock_buffer_left : {decide : Dock → DockDecision} {number : ℕ} {state identity svids out : Lent (List ℕ)} {bytes : Lent ℕ} →
+pub dock_buffer_left : {decide : Dock → DockDecision} {number : ℕ} {state : Lent (List ℕ)} {identity svids : List ℕ} {out : Lent (List ℕ)} {bytes : Lent ℕ} →
     DockSends decide number state identity svids out bytes → (number ≡ 0 → ⊥) → left out ≡ lent out
 dock_buffer_left {decide} {out = out} p refused = p.buffer_is ∙ (refusal_leaves _ (decide _) (lent out) (λ z. refused (p.step_is.number_is ∙ z))).1
 

@@ -46,7 +46,7 @@ use Rattle.controller.proofs.Refusing.{nothing_lent}
 
 -- what is promised of a message with bit 5 clear is promised of the message with bit 5 set, and the other way round: the number, the state, what is
 -- handed over, and all that is lent
-pub dock_message_same : (bytes : List ℕ) {number : ℕ} {state identity svids out : Lent (List ℕ)} {handed : Lent ℕ} →
+pub dock_message_same : (bytes : List ℕ) {number : ℕ} {state : Lent (List ℕ)} {identity svids : List ℕ} {out : Lent (List ℕ)} {handed : Lent ℕ} →
     DockSends (λ d. decide_message d (read_outcome (with_reserved_clear bytes))) number state identity svids out handed ↔
     DockSends (λ d. decide_message d (read_outcome bytes)) number state identity svids out handed
 dock_message_same bytes {number} {state} {identity} {svids} {out} {handed} =
@@ -69,7 +69,7 @@ module _ {side : Side} {number : ℕ} {state handed : Lent (List ℕ)} {memory :
   laptop_message_same bytes = (heard_same _ _ (reserved_ignored bytes), heard_same _ _ (sym (reserved_ignored bytes)))
 
 -- the dock's functions do not return 4,
-module _ {number : ℕ} {state identity svids : Lent (List ℕ)} {handed : Lent ℕ} (four : number ≡ 4) where
+module _ {number : ℕ} {state : Lent (List ℕ)} {identity svids : List ℕ} {handed : Lent ℕ} (four : number ≡ 4) where
   pub dock_message_not_4 : (bytes : List ℕ) {out : Lent (List ℕ)} → DockSends (λ d. decide_message d (read_outcome bytes)) number state identity svids out handed → ⊥
   dock_message_not_4 bytes {out} p = dock_never_four (dock_message bytes) (dock_lent state identity svids) (lent out) (sym p.step_is.number_is ∙ four)
 
@@ -84,9 +84,10 @@ module _ {number : ℕ} {state identity svids : Lent (List ℕ)} {handed : Lent 
   pub dock_failed_not_4 : DockSendsNothing (λ d. decide_failed d d.standing) number state identity svids handed → ⊥
   dock_failed_not_4 p = dock_never_four failed (dock_lent state identity svids) [] (sym p.step_is.number_is ∙ four)
 
+module _ {number : ℕ} {state identity svids : Lent (List ℕ)} {handed : Lent ℕ} (four : number ≡ 4) where
   pub dock_load_not_4 : {new_identity new_svids : List ℕ} → DockLoads new_identity new_svids number state identity svids handed → ⊥
   dock_load_not_4 {new_identity} {new_svids} p =
-      dock_never_four (load new_identity new_svids) (dock_lent state identity svids) [] (sym p.step_is.number_is ∙ four)
+      dock_never_four (load new_identity new_svids) (dock_lent state (lent identity) (lent svids)) [] (sym p.step_is.number_is ∙ four)
 
 -- nor the laptop's,
 refused_first_not_4 : (l : Laptop) (d : Decision) (room : ℕ) (short waits : Bool) → ((step_of l d room).refusal ≡ 4 → ⊥) →

@@ -70,7 +70,7 @@ pub extern "C" fn dock_message(
     out: &mut [u8],
     length: &mut u8,
 ) -> u8
-    ensures { DockSends (λ d. decide_message d (read_outcome bytes.now)) result state identity svids out length }
+    ensures { DockSends (λ d. decide_message d (read_outcome bytes.now)) result state identity.now svids.now out length }
 {
     let before = *state;
     let step = receiving::message(dock_from(before, identity, svids), bytes, out);
@@ -93,7 +93,7 @@ pub extern "C" fn dock_policy_answer(
 ) -> u8
     ensures { DockSends
         (λ d. decide_policy_answer d d.standing (policy_from policy) (record { svid = svid; command = command; position = position }) objects.now)
-        result state identity svids out length }
+        result state identity.now svids.now out length }
 {
     let before = *state;
     let request = Request {
@@ -118,7 +118,7 @@ pub extern "C" fn dock_sent(
     svids: &[u16; 72],
     length: &mut u8,
 ) -> u8
-    ensures { DockSendsNothing (λ d. decide_sent d d.standing) result state identity svids length }
+    ensures { DockSendsNothing (λ d. decide_sent d d.standing) result state identity.now svids.now length }
 {
     let before = *state;
     hand_over(
@@ -135,7 +135,7 @@ pub extern "C" fn dock_failed(
     svids: &[u16; 72],
     length: &mut u8,
 ) -> u8
-    ensures { DockSendsNothing (λ d. decide_failed d d.standing) result state identity svids length }
+    ensures { DockSendsNothing (λ d. decide_failed d d.standing) result state identity.now svids.now length }
 {
     let before = *state;
     hand_over(

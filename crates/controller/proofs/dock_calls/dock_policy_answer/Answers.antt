@@ -1,0 +1,7 @@
+-- `dock_policy_answer` meets its promise.
+use mathlib.Core.Path.{refl}
+use Rattle.controller.proofs.DockHanding.{policy_as, sends_in}
+use Rattle.controller.proofs.dock_calls.dock_policy_answer.Goals as goal
+
+pub returns : goal.returns
+returns c = sends_in c.hand_over.ensures refl refl refl refl c.dock_from.ensures (policy_as _ _ c.policy_from.ensures c.policy_answer-step.ensures)

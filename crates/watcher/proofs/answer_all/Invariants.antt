@@ -1,6 +1,5 @@
 -- `watcher::answer_all` is safe and ends. The measure is how many events may still come, and nothing has to hold from turn to turn.
 -- Assumes nothing.
-use native.Mathlib.Omega.{arith}
 use Rattle.streams.specs.Budget.{turns_left}
 use Rattle.watcher.proofs.answer_all.Given as goal
 

@@ -1,6 +1,4 @@
 -- Where the loop of judging stands, and the ways out of it.
-use types.Run.{OneOf, miss}
-use denote.Enum.Declared.{tag_of}
 use mathlib.Core.Path.{◌≡◌, refl, ap, ap₂, sym, ◌∙◌}
 use mathlib.Core.Bool.{Bool, true, false, cond}
 use mathlib.Core.List.{List, [], ◌∷◌}
@@ -18,7 +16,6 @@ use Rattle.records.specs.declared.Found.{Found}
 use Rattle.records.specs.declared.Found.TheVariants.{Whole, Unknown, Cut, Nothing}
 use Rattle.records.specs.declared.Record.{Record}
 use Rattle.records.specs.declared.Record.TheVariants.{Identity, Svid, Mode, End}
-use Rattle.records.specs.contracts.Found.{the_type}
 use Rattle.records.proofs.Finding.{at_within}
 use Rattle.records.proofs.Laws.{whole_length}
 use Rattle.judging.specs.Judging.{Judgement, judgement, bytes_after_end, out_of_order, ended, turn, length_of, with, walk_from, nothing_yet, judgement_of, shown_as, noted, FileJudged}
@@ -72,10 +69,10 @@ added_end c (Mode mode) bytes e = absurd (let z : ◌≡◌ {A = ℕ} 0 1 = cc i
 added_end c End bytes e = refl
 
 -- a turn over what is not whole
-unfound : (found : Found) → OneOf (1 ∷ 2 ∷ 3 ∷ []) (tag_of the_type found) → (at : ℕ) (c : Catalogue) (bytes : List ℕ) (further : Judgement) →
+unfound : (found : Found) → ((r : Record) (n : ℕ) → found ≡ Whole r n → ⊥) → (at : ℕ) (c : Catalogue) (bytes : List ℕ) (further : Judgement) →
     turn found at c bytes further ≡ judgement (found_number found) at c
 unfolding turn
-unfound (Whole r n) k at c bytes further = absurd (miss (1 ∷ 2 ∷ 3 ∷ []) 0 tt k)
+unfound (Whole r n) k at c bytes further = absurd (k r n refl)
 unfound Unknown k at c bytes further = refl
 unfound Cut k at c bytes further = refl
 unfound Nothing k at c bytes further = refl
@@ -126,7 +123,7 @@ module _ {bytes svids numbers : List ℕ} {w : Walk} (u : Underway bytes svids n
     numbers_are = u.numbers_are ∙ sym (ap (λ (x : Judgement). noted (numbers_of x.catalogue.entries)) j);
   }
 
-  pub stops_unfound : (found : Found) → found ≡ found_at bytes w.at → OneOf (1 ∷ 2 ∷ 3 ∷ []) (tag_of the_type found) →
+  pub stops_unfound : (found : Found) → found ≡ found_at bytes w.at → ((r : Record) (n : ℕ) → found ≡ Whole r n → ⊥) →
       (number : ℕ) → number ≡ found_number found → (result : Judged) → result ≡ record { refusal = number; walk = w } → FileJudged bytes result svids numbers
   stops_unfound found e k number en result er =
       let there : found_in rest ≡ found = sym (e ∙ at_within bytes w.at u.within) in

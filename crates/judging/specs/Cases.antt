@@ -1,5 +1,5 @@
 -- The corners of 02's R-1: files, each with the number and the offset that it gets.
-use Rattle.std.specs.Prelude.{ℕ, zero, suc, ◌+◌, ◌%◌, ◌/◌, List, [], ◌∷◌, ◌++◌, take, replicate}
+use Rattle.std.specs.Prelude.{ℕ, zero, suc, ◌%◌, ◌/◌, List, [], ◌∷◌, ◌++◌, take, replicate}
 use Rattle.judging.specs.Judging.{judgement_of}
 
 -- records, by their bytes

@@ -10,7 +10,6 @@ use Rattle.dock.specs.declared.Policy.{Policy}
 use Rattle.dock.specs.declared.Policy.TheVariants.{Give}
 use Rattle.dock.specs.declared.Standing.{Standing as DockStanding}
 use Rattle.dock.specs.declared.Standing.TheVariants.{Ready, Asking, Sending}
-use Rattle.laptop.specs.State.{memory}
 use Rattle.laptop.specs.declared.Candidate.{Candidate}
 use Rattle.laptop.specs.declared.Candidate.TheVariants.{Absent, Open, Done}
 use Rattle.laptop.specs.declared.Wait.{Wait}

@@ -18,7 +18,7 @@ use Rattle.port.specs.Sides.{same_side, is_others, put_back}
 use Rattle.port.specs.declared.Port.{Port}
 use Rattle.port.specs.declared.Side.{Side}
 use Rattle.port.specs.declared.Side.TheVariants.{Partner, Cable}
-use Rattle.port_laws.specs.Effects.{Call, message, next, start_over, drop, enter, exit, timer, protocol_error, concerns, is_owners, memory_of, effect_in}
+use Rattle.port_laws.specs.Effects.{Call, message, next, start_over, drop, enter, exit, concerns, is_owners, memory_of, effect_in}
 use Rattle.port_laws.specs.Leaving.{is_others_call, is_blocked, is_left_out}
 use Rattle.port_laws.proofs.OneCall.{put_on}
 use Rattle.port_laws.proofs.Sides.{not_others}
@@ -32,7 +32,7 @@ use Rattle.link.specs.Joined.{lose_answer as link_lose_answer}
 use Rattle.link.specs.Joined.{arrive as link_arrive}
 use Rattle.link.specs.Joined.{sent as link_sent}
 use Rattle.link.specs.Joined.{failed as link_failed}
-use Rattle.links.specs.Joint.{FarEnd, Joint, joined, kept_in_of, Event, calls, lose_request, reach, answer, lose_answer, arrive, sent, failed, is_idle, is_unheard, called_on, called, step, run}
+use Rattle.links.specs.Joint.{FarEnd, Joint, joined, kept_in_of, is_idle, is_unheard, called_on, called, step}
 use Rattle.links.specs.Share.{one_sided_event, is_away, share, event_on, events_on}
 
 -- events of which none is a timer or a protocol error

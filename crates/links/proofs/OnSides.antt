@@ -1,6 +1,6 @@
 -- Demand 3 for each side, from that of 01's one link by the side's share.
 use mathlib.Core.Path.{◌≡◌, ap, sym, ◌∙◌, subst}
-use mathlib.Core.Bool.{false, not}
+use mathlib.Core.Bool.{false}
 use mathlib.Core.List.{List, []}
 use Prim.Native.Nat.{ℕ, ◌+◌, ◌/◌, ◌<◌, ◌≤◌}
 use lib.ListN.{length}
@@ -15,8 +15,6 @@ use Rattle.laptop.specs.declared.Wait.TheVariants.{Nothing as LaptopNothing}
 use Rattle.owner.specs.Owner.{any_entered}
 use Rattle.port.specs.Sides.{is_others, seen}
 use Rattle.port.specs.declared.Side.{Side}
-use Rattle.port.specs.declared.Wait.{Wait}
-use Rattle.port.specs.declared.Wait.TheVariants.{Nothing, Answer}
 use Rattle.port_laws.specs.Effects.{Call, one_sided}
 use Rattle.link.specs.Demand.{Meets, AtRest, Begins, whole, Holds, OldOrWhole, Lowers, Replaces, Counts, Completes, Raises, EndsBy, NeverBad, RequestTaken}
 use Rattle.link.specs.Exchanges.{HasAll, exchange, times, LossFree, NextAsks}

@@ -55,9 +55,9 @@ pub fn read_catalogue(
     run: &mut [u32],
 ) -> Rebuilt
     ensures { CatalogueRead bytes.now
-        (record { identity = identity.entry.now; svids = svids.old; numbers = modes.old; run = run.old })
+        (record { identity = identity.old; svids = svids.old; numbers = modes.old; run = run.old })
         result
-        (record { identity = identity.exit.now; svids = svids.new; numbers = modes.new; run = run.new }) }
+        (record { identity = identity.new; svids = svids.new; numbers = modes.new; run = run.new }) }
 {
     if run.len() < RUN_WORDS {
         return refused(SHORT_RUN, 0);

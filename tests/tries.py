@@ -79,7 +79,8 @@ def changed(folder, texts, changes, control=False):
             made[change.file] = (folder / change.file).read_text()
         if made[change.file].count(change.old) != 1:
             return False
-        made[change.file] = made[change.file].replace(change.old, change.same if control else change.new)
+        # what the code is named after is named alike in a proof, unless the control says otherwise
+        made[change.file] = made[change.file].replace(change.old, change.same or change.new if control else change.new)
     texts.update(made)
     return True
 

@@ -91,6 +91,8 @@ fn give(dock: Dock, request: Request, objects: &[u32], out: &mut [u8]) -> Step
     give_other(dock, request, out)
 }
 
+// A part of its caller, so that no state of its own lies on the stack.
+#[inline(always)]
 fn decline(dock: Dock, request: Request, kind: u8, objects: &[u32], out: &mut [u8]) -> Step
     ensures { Stepped dock (declined dock request kind objects.now) out.old result out.new }
 {

@@ -1,6 +1,6 @@
 // Cases 11 and 12: both ends, joined.
 use crate::link::{Ends, confirm, exchange, fail, fresh, gather, reload};
-use crate::owner::laptop_of;
+use crate::owner_turns::laptop_of;
 use crate::report::{case, with_catalogue, with_message, with_named, with_refusal};
 use crate::written::Message;
 use dock::Policy;

@@ -1,5 +1,5 @@
 // Case 10 and Case L: what the laptop does with answers that are given to it, all at 2.0.
-use crate::owner::{Turn, hear, laptop_of, next};
+use crate::owner_turns::{Turn, hear, laptop_of, next};
 use crate::report::{case, with_catalogue, with_message, with_named, with_refusal};
 use crate::responder::{IDENTITY_OBJECTS, MODE};
 use crate::written::{Message, write};

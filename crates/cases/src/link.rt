@@ -1,5 +1,5 @@
 // Both ends, joined by hand: what one sends is given to the other.
-use crate::owner::{hear, laptop_of, next};
+use crate::owner_turns::{hear, laptop_of, next};
 use crate::responder::{load, reply};
 use crate::written::{Message, nothing};
 use dock::{Dock, Policy};

@@ -5,7 +5,7 @@ mod dock_cases;
 mod joined_cases;
 mod laptop_cases;
 mod link;
-mod owner;
+mod owner_turns;
 mod reading_case;
 mod report;
 mod responder;

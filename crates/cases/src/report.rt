@@ -1,5 +1,5 @@
 // The parts of a case's lines.
-use crate::owner::laptop_of;
+use crate::owner_turns::laptop_of;
 use crate::written::Message;
 use driving::fields::{with_held, with_number};
 use driving::line::{Line, empty, with_bytes, with_half, with_text};

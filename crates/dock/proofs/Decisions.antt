@@ -1,6 +1,4 @@
 -- The ways out of each call, over plain variables.
-use types.Run.{OneOf, miss}
-use denote.Enum.Declared.{tag_of}
 use mathlib.Core.Path.{◌≡◌, refl, ap, ◌∙◌}
 use mathlib.Core.Bool.{Bool, true, false, cond, not, ◌&&◌}
 use mathlib.Core.List.{List, [], ◌∷◌}
@@ -25,13 +23,12 @@ use Rattle.dock.specs.declared.Policy.TheVariants.{Give}
 use Rattle.messages.specs.declared.request.Request.{Request}
 use Rattle.dock.specs.declared.Standing.{Standing}
 use Rattle.dock.specs.declared.Standing.TheVariants.{Ready, Asking, Sending}
-use Rattle.dock.specs.contracts.Standing.{the_type}
 
 -- loading
-pub load_standing : (d : Dock) (s : Standing) (identity svids : List ℕ) → OneOf (1 ∷ 2 ∷ []) (tag_of the_type s) →
+pub load_standing : (d : Dock) (s : Standing) (identity svids : List ℕ) → (s ≡ Ready → ⊥) →
     decide_load d s identity svids ≡ refuses 9
 unfolding decide_load
-load_standing d Ready identity svids k = absurd (miss (1 ∷ 2 ∷ []) 0 tt k)
+load_standing d Ready identity svids k = absurd (k refl)
 load_standing d (Asking request) identity svids k = refl
 load_standing d (Sending is_page) identity svids k = refl
 
@@ -200,26 +197,26 @@ module _ (d : Dock) (r : Request) where
         answer_policy y p ep =
             ap (λ (x : Standing). decide_policy_answer d x policy r objects) e ∙ rw y (ap (λ (x : Policy). decide_policy d x r objects) ep)
 
-pub answer_standing : (d : Dock) (r : Request) (objects : List ℕ) (policy : Policy) (s : Standing) → OneOf (0 ∷ 2 ∷ []) (tag_of the_type s) →
+pub answer_standing : (d : Dock) (r : Request) (objects : List ℕ) (policy : Policy) (s : Standing) → ((a : Request) → s ≡ Asking a → ⊥) →
     decide_policy_answer d s policy r objects ≡ refuses 9
 unfolding decide_policy_answer
 answer_standing d r objects policy Ready k = refl
-answer_standing d r objects policy (Asking a) k = absurd (miss (0 ∷ 2 ∷ []) 1 tt k)
+answer_standing d r objects policy (Asking a) k = absurd (k a refl)
 answer_standing d r objects policy (Sending is_page) k = refl
 
 -- "sent" and "failed"
 module _ (d : Dock) where
-  pub sent_standing : (s : Standing) → OneOf (0 ∷ 1 ∷ []) (tag_of the_type s) → decide_sent d s ≡ refuses 9
+  pub sent_standing : (s : Standing) → ((is_page : Bool) → s ≡ Sending is_page → ⊥) → decide_sent d s ≡ refuses 9
   unfolding decide_sent
   sent_standing Ready k = refl
   sent_standing (Asking a) k = refl
-  sent_standing (Sending is_page) k = absurd (miss (0 ∷ 1 ∷ []) 2 tt k)
+  sent_standing (Sending is_page) k = absurd (k is_page refl)
 
-  pub failed_standing : (s : Standing) → OneOf (0 ∷ 1 ∷ []) (tag_of the_type s) → decide_failed d s ≡ refuses 9
+  pub failed_standing : (s : Standing) → ((is_page : Bool) → s ≡ Sending is_page → ⊥) → decide_failed d s ≡ refuses 9
   unfolding decide_failed
   failed_standing Ready k = refl
   failed_standing (Asking a) k = refl
-  failed_standing (Sending is_page) k = absurd (miss (0 ∷ 1 ∷ []) 2 tt k)
+  failed_standing (Sending is_page) k = absurd (k is_page refl)
 
   pub sent_moves : (s : Standing) (is_page : Bool) → s ≡ Sending is_page → decide_sent d s ≡ accepts (moved is_page d)
   unfolding decide_sent

@@ -1,26 +1,10 @@
 -- `policy_answer` meets its promise: it must name the request that waits, and then policy's word is followed.
 use mathlib.Core.Path.{sym, ◌∙◌}
-use Prim.Native.Nat.{ℕ}
-use mathlib.Core.List.{List}
-use Rattle.std.proofs.Common.{refl, ◌≡◌}
-use Rattle.messages.specs.declared.request.Request.{Request}
-use Rattle.dock.specs.declared.Dock.{Dock}
-use Rattle.dock.specs.declared.Policy.{Policy}
-use Rattle.dock.specs.declared.Standing.{Standing}
-use Rattle.dock.specs.declared.Standing.TheVariants.{Ready, Asking, Sending}
-use Rattle.dock.specs.Dock.{decide_policy, decide_policy_answer, refuses}
+use Rattle.dock.specs.Dock.{decide_policy}
 use Rattle.dock.specs.declared.Policy.TheVariants.{Give, Nak, Busy}
-use Rattle.dock.proofs.Decisions.{answer_other, answer_policy}
+use Rattle.dock.proofs.Decisions.{answer_standing, answer_other, answer_policy}
 use Rattle.dock.proofs.Steps.{refuse, same}
 use Rattle.answering.proofs.policy_answer.Goals as goal
-
--- where no request waits, the answer is refused
-answer_standing : (d : Dock) (r : Request) (objects : List ℕ) (policy : Policy) (s : Standing) → ((asked : Request) → s ≡ Asking asked → ⊥) →
-    decide_policy_answer d s policy r objects ≡ refuses 9
-unfolding decide_policy_answer
-answer_standing d r objects policy Ready k = refl
-answer_standing d r objects policy (Asking a) k = absurd (k a refl)
-answer_standing d r objects policy (Sending is_page) k = refl
 
 pub returns-in_default : goal.returns-in_default
 returns-in_default c = let a = c.args in

@@ -1,24 +1,12 @@
 -- `load` meets its promise.
-use mathlib.Core.List.{[], List}
-use Prim.Native.Nat.{ℕ}
-use Rattle.std.proofs.Common.{refl, ◌≡◌}
-use Rattle.dock.specs.declared.Dock.{Dock}
-use Rattle.dock.specs.declared.Standing.{Standing}
-use Rattle.dock.specs.declared.Standing.TheVariants.{Ready, Asking, Sending}
+use mathlib.Core.List.{[]}
 use Rattle.dock.specs.Data.{loaded}
 use Rattle.dock.proofs.Decisions.{data_fits}
 use Rattle.dock.proofs.Steps.{refuse, accept}
 use mathlib.Core.Path.{ap, sym, ◌∙◌}
-use Rattle.dock.specs.Dock.{accepted_by, decide_load, refuses}
-use Rattle.dock.proofs.Decisions.{load_good, load_bad}
+use Rattle.dock.specs.Dock.{accepted_by}
+use Rattle.dock.proofs.Decisions.{load_standing, load_good, load_bad}
 use Rattle.loading.proofs.load.Goals as goal
-
--- a dock that is not ready refuses a load
-load_standing : (d : Dock) (s : Standing) (identity svids : List ℕ) → (s ≡ Ready → ⊥) → decide_load d s identity svids ≡ refuses 9
-unfolding decide_load
-load_standing d Ready identity svids k = absurd (k refl)
-load_standing d (Asking request) identity svids k = refl
-load_standing d (Sending is_page) identity svids k = refl
 
 pub returns-in_default : goal.returns-in_default
 returns-in_default c = let a = c.args in

@@ -74,6 +74,8 @@ pub(crate) fn wait_in(state: &[u16; 22]) -> Wait
     wait_from(state[0], request_from(state[1], state[2], state[3]))
 }
 
+// A part of its callers: as a call of its own it costs `laptop_message` sixteen bytes of stack.
+#[inline(always)]
 pub(crate) fn port_from(state: &[u16; 22]) -> Port
     ensures { result ≡ port_from state.now }
 {

@@ -1,4 +1,5 @@
 // A stream of vectors or events on standard input: how many are answered, and how it ended.
+
 // The number of standard output among the open files.
 pub const STDOUT: i32 = 1;
 

@@ -1,5 +1,6 @@
 // One line of output, built in a buffer that the caller lends, so that one call writes it. Each
 // function that adds to the line puts its text at `at` and answers where that text ends.
+
 // The number of standard output among the open files.
 const STDOUT: i32 = 1;
 

@@ -1,8 +1,11 @@
 """What tests/refused and tests/controls share: the places that the must-fail edits change, and checks of a crate with some of them changed. A check runs in a
 copy of the crate and of all below it, in a temporary folder, since rt ci refuses sources outside the repository's crates; it begins with what a check of
 the crate as it stands has left there."""
+import contextlib
+import fcntl
 import os
 import pathlib
+import queue
 import re
 import shutil
 import subprocess
@@ -13,6 +16,8 @@ from dataclasses import dataclass, field
 
 ROOT = pathlib.Path(__file__).resolve().parent.parent
 PARTS = ("src", "specs", "proofs")
+# The numbers of the folders in which no check runs.
+FREE = queue.SimpleQueue()
 WRONG = re.compile(r"# ([a-z0-9_]+) in ([\w:, ]+?): ")
 
 
@@ -121,6 +126,20 @@ def lanes():
     return max(1, min(len(os.sched_getaffinity(0)), free // 2_500_000))
 
 
+@contextlib.contextmanager
+def room_for_copies():
+    """A folder for copies. It is always the same, since rt notes for good each folder in which a check has worked; a second run waits for it."""
+    room = pathlib.Path(tempfile.gettempdir(), f"graftpigeon-tries-{os.getuid()}")
+    with open(f"{room}.lock", "w") as lock:
+        fcntl.flock(lock, fcntl.LOCK_EX)
+        shutil.rmtree(room, ignore_errors=True)
+        room.mkdir(mode=0o700)
+        try:
+            yield room
+        finally:
+            shutil.rmtree(room, ignore_errors=True)
+
+
 class Copies:
     """Copies of a crate, each for one check."""
 
@@ -141,19 +160,29 @@ class Copies:
 
     def check(self, texts):
         """What rt says of the crate with these texts. What was made of the crates is taken by links: rt removes such a file, and writes no other into it."""
-        with tempfile.TemporaryDirectory(prefix=f"{self.crate}-", dir=self.room) as at:
-            shutil.copytree(self.base, at, copy_function=os.link, dirs_exist_ok=True)
+        number = FREE.get()
+        at = self.room / f"try-{number}"
+        try:
+            shutil.copytree(self.base, at, copy_function=os.link)
+            folder = at / "crates" / self.crate
             for file, text in texts.items():
-                path = pathlib.Path(at, "crates", self.crate, file)
-                path.unlink()
-                path.write_text(text)
-            return check(path.parents[len(pathlib.PurePath(file).parts) - 1])
+                (folder / file).unlink()
+                (folder / file).write_text(text)
+            return check(folder)
+        finally:
+            shutil.rmtree(at, ignore_errors=True)
+            FREE.put(number)
 
 
 def run(work, *lists):
     """Runs the work with each of the arguments, some at a time, and exits where it raises Broken."""
+    many = lanes()
+    while not FREE.empty():
+        FREE.get()
+    for number in range(many):
+        FREE.put(number)
     try:
-        with ThreadPoolExecutor(lanes()) as pool:
+        with ThreadPoolExecutor(many) as pool:
             return list(pool.map(work, *lists))
     except Broken as why:
         sys.exit(f"{pathlib.Path(sys.argv[0]).name}: {why}")

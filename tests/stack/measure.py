@@ -9,7 +9,7 @@ import frames
 # No limit may be over this.
 MOST = 512
 LIMITS = pathlib.Path(__file__).with_name("limits")
-LIBRARY = "crates/controller/out/libcontroller.a"
+LIBRARY = "crates/controller_c/out/libcontroller.a"
 EXPORTED = re.compile(r'#\[unsafe\(no_mangle\)\]\s+pub extern "C" fn (\w+)')
 PUBLIC = re.compile(r"^pub (?:use \w+::|fn )([a-z]\w*)", re.MULTILINE)
 # No calls of 01: parts that stand between crates, in whose callers' frames they are counted.
@@ -87,7 +87,7 @@ def measured(exported, library, limits):
 
 def main(root):
     library = disassembly.read(str(root / LIBRARY))
-    exported = EXPORTED.findall(sources(root, "controller"))
+    exported = EXPORTED.findall(sources(root, "controller_c"))
     limits = read_limits(LIMITS)
     chains, over = measured(exported, library, limits)
     faults = [*complaints(root, exported, library), *limits_missed(exported, limits), *over]

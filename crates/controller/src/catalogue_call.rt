@@ -9,8 +9,7 @@ use crate::numbers::side_from;
 use crate::port_state::port_from;
 
 // Writes the catalogue that the side holds; `length` is the number of bytes written.
-#[unsafe(no_mangle)]
-pub extern "C" fn catalogue_write(
+pub fn catalogue_write(
     state: &[u16; 22],
     side: u8,
     held_svids: &[u16; 72],

@@ -14,8 +14,7 @@ fn numbers_of(found: Kept) -> [u16; 3]
 }
 
 // Mends a catalogue's bytes into `out`; `kept` are the numbers of SVIDs and modes in what comes out, and of its bytes.
-#[unsafe(no_mangle)]
-pub extern "C" fn catalogue_mend(bytes: &[u8], out: &mut [u8], kept: &mut [u16; 3]) -> u32
+pub fn catalogue_mend(bytes: &[u8], out: &mut [u8], kept: &mut [u16; 3]) -> u32
     ensures { MendCall bytes.now result out kept }
 {
     let mended = mend_catalogue(bytes, out);

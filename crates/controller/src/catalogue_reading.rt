@@ -23,8 +23,7 @@ fn sizes_of(read: Rebuilt) -> [u16; 3]
 }
 
 // Reads a catalogue; `sizes` are the numbers of identity objects, SVIDs and modes.
-#[unsafe(no_mangle)]
-pub extern "C" fn catalogue_read(
+pub fn catalogue_read(
     bytes: &[u8],
     svids: &mut [u16; 72],
     modes: &mut [u8; 72],
@@ -43,8 +42,7 @@ pub extern "C" fn catalogue_read(
 }
 
 // Finds the mode records of an SVID; `length` is the number of their bytes.
-#[unsafe(no_mangle)]
-pub extern "C" fn catalogue_stretch(bytes: &[u8], svid: u16, length: &mut u16) -> u32
+pub fn catalogue_stretch(bytes: &[u8], svid: u16, length: &mut u16) -> u32
     ensures { StretchCall bytes.now svid result length }
 {
     let place = find_stretch(bytes, svid);

@@ -24,8 +24,7 @@ fn policy_from(number: u8) -> Policy
 }
 
 // A fresh dock.
-#[unsafe(no_mangle)]
-pub extern "C" fn dock_fresh(state: &mut [u16; 8], identity: &mut [u32; 6], svids: &mut [u16; 72])
+pub fn dock_fresh(state: &mut [u16; 8], identity: &mut [u32; 6], svids: &mut [u16; 72])
     ensures { (left state ≡ dock_numbers fresh_dock) × (left identity ≡ fresh_dock.identity) × (left svids ≡ fresh_dock.svids) }
 {
     let dock = dock::fresh();
@@ -37,8 +36,7 @@ pub extern "C" fn dock_fresh(state: &mut [u16; 8], identity: &mut [u32; 6], svid
     *svids = no_svids;
 }
 
-#[unsafe(no_mangle)]
-pub extern "C" fn dock_load(
+pub fn dock_load(
     state: &mut [u16; 8],
     identity: &mut [u32; 6],
     svids: &mut [u16; 72],
@@ -61,8 +59,7 @@ pub extern "C" fn dock_load(
     number
 }
 
-#[unsafe(no_mangle)]
-pub extern "C" fn dock_message(
+pub fn dock_message(
     state: &mut [u16; 8],
     identity: &[u32; 6],
     svids: &[u16; 72],
@@ -78,8 +75,7 @@ pub extern "C" fn dock_message(
 }
 
 // Policy's answer: 1 NAK, 2 BUSY, any other give.
-#[unsafe(no_mangle)]
-pub extern "C" fn dock_policy_answer(
+pub fn dock_policy_answer(
     state: &mut [u16; 8],
     identity: &[u32; 6],
     svids: &[u16; 72],
@@ -111,8 +107,7 @@ pub extern "C" fn dock_policy_answer(
     hand_over(step, state, length)
 }
 
-#[unsafe(no_mangle)]
-pub extern "C" fn dock_sent(
+pub fn dock_sent(
     state: &mut [u16; 8],
     identity: &[u32; 6],
     svids: &[u16; 72],
@@ -128,8 +123,7 @@ pub extern "C" fn dock_sent(
     )
 }
 
-#[unsafe(no_mangle)]
-pub extern "C" fn dock_failed(
+pub fn dock_failed(
     state: &mut [u16; 8],
     identity: &[u32; 6],
     svids: &[u16; 72],

@@ -14,8 +14,7 @@ use crate::told::hand_over;
 use port::{seen, stepped_on};
 
 // A fresh laptop, on both sides.
-#[unsafe(no_mangle)]
-pub extern "C" fn laptop_fresh(
+pub fn laptop_fresh(
     state: &mut [u16; 22],
     partner_entered: &mut [u8; 72],
     cable_entered: &mut [u8; 72],
@@ -59,8 +58,7 @@ fn hear(
 }
 
 // A message from a side.
-#[unsafe(no_mangle)]
-pub extern "C" fn laptop_message(
+pub fn laptop_message(
     state: &mut [u16; 22],
     side: u8,
     bytes: &[u8],
@@ -99,8 +97,7 @@ pub extern "C" fn laptop_message(
 }
 
 // How many modes of the SVID are entered on a side.
-#[unsafe(no_mangle)]
-pub extern "C" fn laptop_report(
+pub fn laptop_report(
     state: &[u16; 22],
     side: u8,
     svid: u16,

@@ -10,8 +10,7 @@ use crate::port_state::port_from;
 use crate::port_writing::put_port;
 use crate::told::hand_over;
 
-#[unsafe(no_mangle)]
-pub extern "C" fn laptop_next(
+pub fn laptop_next(
     state: &mut [u16; 22],
     side: u8,
     svids: &[u16; 72],
@@ -39,8 +38,7 @@ pub extern "C" fn laptop_next(
     hand_over(step, handed)
 }
 
-#[unsafe(no_mangle)]
-pub extern "C" fn laptop_start_over(
+pub fn laptop_start_over(
     state: &mut [u16; 22],
     side: u8,
     entered: &[u8; 72],
@@ -66,8 +64,7 @@ pub extern "C" fn laptop_start_over(
     hand_over(step, handed)
 }
 
-#[unsafe(no_mangle)]
-pub extern "C" fn laptop_drop(
+pub fn laptop_drop(
     state: &mut [u16; 22],
     side: u8,
     run: &[u32],
@@ -85,8 +82,7 @@ pub extern "C" fn laptop_drop(
     hand_over(step, handed)
 }
 
-#[unsafe(no_mangle)]
-pub extern "C" fn laptop_enter(
+pub fn laptop_enter(
     state: &mut [u16; 22],
     side: u8,
     svid: u16,
@@ -120,8 +116,7 @@ pub extern "C" fn laptop_enter(
     hand_over(step, handed)
 }
 
-#[unsafe(no_mangle)]
-pub extern "C" fn laptop_exit(
+pub fn laptop_exit(
     state: &mut [u16; 22],
     side: u8,
     svid: u16,

@@ -6,8 +6,7 @@ use crate::port_state::port_from;
 use crate::port_writing::put_port;
 use crate::told::hand_over;
 
-#[unsafe(no_mangle)]
-pub extern "C" fn laptop_response_timer(state: &mut [u16; 22], handed: &mut [u32; 8]) -> u8
+pub fn laptop_response_timer(state: &mut [u16; 22], handed: &mut [u32; 8]) -> u8
     ensures { LaptopSendsNothing (λ l. decide_timer 1 3 l l.wait) result state handed }
 {
     let step = port::response_timer(port_from(state));
@@ -16,8 +15,7 @@ pub extern "C" fn laptop_response_timer(state: &mut [u16; 22], handed: &mut [u32
     hand_over(step, handed)
 }
 
-#[unsafe(no_mangle)]
-pub extern "C" fn laptop_entry_timer(state: &mut [u16; 22], handed: &mut [u32; 8]) -> u8
+pub fn laptop_entry_timer(state: &mut [u16; 22], handed: &mut [u32; 8]) -> u8
     ensures { LaptopSendsNothing (λ l. decide_timer 4 4 l l.wait) result state handed }
 {
     let step = port::entry_timer(port_from(state));
@@ -26,8 +24,7 @@ pub extern "C" fn laptop_entry_timer(state: &mut [u16; 22], handed: &mut [u32; 8
     hand_over(step, handed)
 }
 
-#[unsafe(no_mangle)]
-pub extern "C" fn laptop_exit_timer(state: &mut [u16; 22], handed: &mut [u32; 8]) -> u8
+pub fn laptop_exit_timer(state: &mut [u16; 22], handed: &mut [u32; 8]) -> u8
     ensures { LaptopSendsNothing (λ l. decide_timer 5 5 l l.wait) result state handed }
 {
     let step = port::exit_timer(port_from(state));
@@ -36,8 +33,7 @@ pub extern "C" fn laptop_exit_timer(state: &mut [u16; 22], handed: &mut [u32; 8]
     hand_over(step, handed)
 }
 
-#[unsafe(no_mangle)]
-pub extern "C" fn laptop_protocol_error(state: &mut [u16; 22], handed: &mut [u32; 8]) -> u8
+pub fn laptop_protocol_error(state: &mut [u16; 22], handed: &mut [u32; 8]) -> u8
     ensures { LaptopSendsNothing (λ l. decide_error l l.wait) result state handed }
 {
     let step = port::protocol_error(port_from(state));

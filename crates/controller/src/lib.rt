@@ -18,3 +18,15 @@ mod port_same;
 mod port_state;
 mod port_writing;
 mod told;
+
+pub use catalogue_call::catalogue_write;
+pub use catalogue_mending::catalogue_mend;
+pub use catalogue_reading::{catalogue_read, catalogue_stretch};
+pub use dock_calls::{
+    dock_failed, dock_fresh, dock_load, dock_message, dock_policy_answer, dock_sent,
+};
+pub use laptop_calls::{laptop_fresh, laptop_message, laptop_report};
+pub use laptop_owner::{laptop_drop, laptop_enter, laptop_exit, laptop_next, laptop_start_over};
+pub use laptop_timers::{
+    laptop_entry_timer, laptop_exit_timer, laptop_protocol_error, laptop_response_timer,
+};

@@ -1,0 +1,71 @@
+// The laptop's calls but those of its owner and its timers.
+ghost use Rattle.std.specs.Prelude.{◌≡◌, replicate};
+ghost use Rattle.laptop.specs.Marks.{reported};
+ghost use Rattle.laptop.specs.State.{memory_lent};
+ghost use Rattle.port.specs.Sides.{own_of, fresh_port};
+ghost use Rattle.controller.specs.LaptopCalls.{LaptopHears};
+ghost use Rattle.controller.specs.Port.{side_from, port_from, port_numbers};
+ghost use Rattle.laws.specs.Lent.{left};
+
+// A fresh laptop, on both sides.
+#[unsafe(no_mangle)]
+pub extern "C" fn laptop_fresh(
+    state: &mut [u16; 22],
+    partner_entered: &mut [u8; 72],
+    cable_entered: &mut [u8; 72],
+)
+    ensures { (left state ≡ port_numbers fresh_port) × (left partner_entered ≡ replicate 72 0) × (left cable_entered ≡ replicate 72 0) }
+{
+    controller::laptop_fresh(state, partner_entered, cable_entered)
+}
+
+// A message from a side.
+#[unsafe(no_mangle)]
+pub extern "C" fn laptop_message(
+    state: &mut [u16; 22],
+    side: u8,
+    bytes: &[u8],
+    svids: &mut [u16; 72],
+    modes: &mut [u8; 72],
+    identity: &mut [u32; 6],
+    run: &mut [u32],
+    held_svids: &mut [u16; 72],
+    held_modes: &mut [u8; 72],
+    held_identity: &mut [u32; 6],
+    held_run: &mut [u32],
+    entered: &mut [u8; 72],
+    handed: &mut [u32; 8],
+) -> u8
+    ensures { LaptopHears (side_from side) bytes.now result state
+        (memory_lent svids modes identity run held_svids held_modes held_identity held_run entered) handed }
+{
+    controller::laptop_message(
+        state,
+        side,
+        bytes,
+        svids,
+        modes,
+        identity,
+        run,
+        held_svids,
+        held_modes,
+        held_identity,
+        held_run,
+        entered,
+        handed,
+    )
+}
+
+// How many modes of the SVID are entered on a side.
+#[unsafe(no_mangle)]
+pub extern "C" fn laptop_report(
+    state: &[u16; 22],
+    side: u8,
+    svid: u16,
+    held_svids: &[u16; 72],
+    entered: &[u8; 72],
+) -> u32
+    ensures { result ≡ reported (own_of (side_from side) (port_from state.now)).held held_svids.now entered.now svid }
+{
+    controller::laptop_report(state, side, svid, held_svids, entered)
+}

@@ -1,0 +1,102 @@
+// The owner's calls, each for a side.
+ghost use Rattle.std.specs.Prelude.{length};
+ghost use Rattle.owner.specs.Owner.{decide_next, decide_start_over, decide_drop, decide_enter, decide_exit};
+ghost use Rattle.controller.specs.LaptopCalls.{LaptopSends};
+ghost use Rattle.controller.specs.Port.{side_from};
+
+#[unsafe(no_mangle)]
+pub extern "C" fn laptop_next(
+    state: &mut [u16; 22],
+    side: u8,
+    svids: &[u16; 72],
+    entered: &[u8; 72],
+    run: &[u32],
+    held_run: &[u32],
+    out: &mut [u8],
+    handed: &mut [u32; 8],
+) -> u8
+    ensures { LaptopSends (side_from side)
+        (λ l. decide_next l svids.now entered.now (length run.now) (length held_run.now))
+        (length run.now) (length held_run.now) result state out handed }
+{
+    controller::laptop_next(state, side, svids, entered, run, held_run, out, handed)
+}
+
+#[unsafe(no_mangle)]
+pub extern "C" fn laptop_start_over(
+    state: &mut [u16; 22],
+    side: u8,
+    entered: &[u8; 72],
+    run: &[u32],
+    held_run: &[u32],
+    out: &mut [u8],
+    handed: &mut [u32; 8],
+) -> u8
+    ensures { LaptopSends (side_from side)
+        (λ l. decide_start_over l entered.now (length run.now) (length held_run.now))
+        (length run.now) (length held_run.now) result state out handed }
+{
+    controller::laptop_start_over(state, side, entered, run, held_run, out, handed)
+}
+
+#[unsafe(no_mangle)]
+pub extern "C" fn laptop_drop(
+    state: &mut [u16; 22],
+    side: u8,
+    run: &[u32],
+    held_run: &[u32],
+    out: &mut [u8],
+    handed: &mut [u32; 8],
+) -> u8
+    ensures { LaptopSends (side_from side)
+        (λ l. decide_drop l (length run.now) (length held_run.now))
+        (length run.now) (length held_run.now) result state out handed }
+{
+    controller::laptop_drop(state, side, run, held_run, out, handed)
+}
+
+#[unsafe(no_mangle)]
+pub extern "C" fn laptop_enter(
+    state: &mut [u16; 22],
+    side: u8,
+    svid: u16,
+    position: u8,
+    held_svids: &[u16; 72],
+    held_modes: &[u8; 72],
+    entered: &[u8; 72],
+    run: &[u32],
+    held_run: &[u32],
+    out: &mut [u8],
+    handed: &mut [u32; 8],
+) -> u8
+    ensures { LaptopSends (side_from side)
+        (λ l. decide_enter l held_svids.now held_modes.now entered.now (length run.now) (length held_run.now) svid position)
+        (length run.now) (length held_run.now) result state out handed }
+{
+    controller::laptop_enter(
+        state, side, svid, position, held_svids, held_modes, entered, run, held_run, out, handed,
+    )
+}
+
+#[unsafe(no_mangle)]
+pub extern "C" fn laptop_exit(
+    state: &mut [u16; 22],
+    side: u8,
+    svid: u16,
+    position: u8,
+    held_svids: &[u16; 72],
+    held_modes: &[u8; 72],
+    entered: &[u8; 72],
+    run: &[u32],
+    held_run: &[u32],
+    out: &mut [u8],
+    handed: &mut [u32; 8],
+) -> u8
+    ensures { LaptopSends (side_from side)
+        (λ l. decide_exit l held_svids.now held_modes.now entered.now (length run.now) (length held_run.now) svid position)
+        (length run.now) (length held_run.now) result state out handed }
+{
+    controller::laptop_exit(
+        state, side, svid, position, held_svids, held_modes, entered, run, held_run, out, handed,
+    )
+}

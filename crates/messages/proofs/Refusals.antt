@@ -13,9 +13,9 @@ use Rattle.laws.proofs.Padded.{padded_at}
 use Rattle.messages.specs.Layout.{bits, objects_of, structured, major, edition_said, head_of}
 use Rattle.messages.specs.Table.{shape}
 use Rattle.messages.specs.Reading.{wrong_length, header_lines, header_in, objects_in, read_refusal, message_in, edition_in, accepted, refused, outcome, read_outcome, shown}
-use Rattle.messages.specs.declared.ReadAs.TheVariants.{Message as ReadAsMessage}
+use Rattle.messages.specs.Reading.{ReadAsMessage}
 use Rattle.messages.specs.declared.Head.{Head}
-use Rattle.messages.specs.declared.Reading.{Reading}
+use Rattle.messages.specs.Reading.{Reading}
 use Rattle.messages.specs.declared.edition.Edition.{Edition}
 use Rattle.messages.proofs.Objects.{length_objects}
 

@@ -1,6 +1,7 @@
 // The editions of Structured VDMs, and the choice between two: document 02, R-5.
 ghost use Rattle.std.specs.Prelude.{◌≡◌};
-ghost use Rattle.std.specs.Result.{result_ok};
+ghost use Rattle.std.specs.Option.{ok_or};
+ghost use Rattle.messages.specs.declared.refusal.Refusal.TheVariants.{WrongShape};
 ghost use Rattle.messages.specs.Editions.{edition_number, edition_named};
 ghost use Rattle.messages.specs.Editions.{lower as Editions·lower};
 
@@ -29,7 +30,7 @@ impl From<Edition> for u8 {
 impl TryFrom<u8> for Edition {
     type Error = Refusal;
 
-    ghost try_from_gives = { λ number named. result_ok named ≡ edition_named number };
+    ghost try_from_gives = { λ number named. named ≡ ok_or (edition_named number) WrongShape };
 
     fn try_from(number: u8) -> Result<Edition, Refusal> {
         match number {

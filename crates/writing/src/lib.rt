@@ -56,7 +56,10 @@ pub fn write(edition: Edition, head: Head, objects: &[u32], out: &mut [u8]) -> R
     ensures { Written edition (record { head = head; objects = objects.now }) out.old (number_in result) out.new }
 {
     let n = objects.len();
-    if 6 < n || !shape(head, (n + 1) as u8) {
+    if 6 < n {
+        return Err(Refusal::WrongShape);
+    }
+    if !shape(head, (n + 1) as u8) {
         return Err(Refusal::WrongShape);
     }
     if out.len() < n * 4 + 4 {

@@ -2,6 +2,8 @@
 // out.
 ghost use Rattle.std.specs.Prelude.{◌≤◌};
 
+use std::fmt;
+
 // The number of standard output among the open files.
 const STDOUT: i32 = 1;
 
@@ -119,5 +121,16 @@ impl<const N: usize> Line<N> {
     // What a line has where there is nothing to tell.
     pub fn nothing(&mut self) {
         self.text(b" -");
+    }
+}
+
+// What `write!` writes goes behind the text, and is an error where it finds no room.
+impl<const N: usize> fmt::Write for Line<N> {
+    fn write_str(&mut self, s: &str) -> fmt::Result {
+        if N - self.end < s.len() {
+            return Err(fmt::Error);
+        }
+        self.text(s.as_bytes());
+        Ok(())
     }
 }

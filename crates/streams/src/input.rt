@@ -43,7 +43,7 @@ pub fn bytes_from(bytes: &[u8], start: usize, count: usize) -> &[u8] {
     first_bytes(bytes.get(start..).unwrap_or(&[]), count)
 }
 
-fn read_half() -> Result<u16, Stop> {
+pub fn read_half() -> Result<u16, Stop> {
     Ok(u16::from_le_bytes(read_bytes()?))
 }
 

@@ -6,9 +6,8 @@ mod list;
 ghost use Rattle.std.specs.Prelude.{◌≡◌, ◌<◌, get_or};
 ghost use Rattle.pages.specs.Pages.{page as Pages·page, is_last, pair_at, pairs_from, shown_page};
 
-use messages::item_or;
-
 pub use list::{first_svids, is_in, sound};
+use messages::item_or;
 
 // A page's objects stand first among the six words, and zeros behind them.
 #[derive(Clone, Copy)]

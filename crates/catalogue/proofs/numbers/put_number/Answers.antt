@@ -1,9 +1,8 @@
 -- `put_number` meets its promise.
 use mathlib.Core.Path.{◌≡◌, ap, sym, ◌∙◌}
-use Prim.Native.Nat.{ℕ, ◌+◌, ◌-◌}
+use Prim.Native.Nat.{ℕ, ◌+◌}
 use native.Mathlib.Omega.{arith}
 use lib.ListN.{take}
-use Rattle.std.specs.Int.{w64, to_le_bytes}
 use Rattle.laws.proofs.Stores.{put_part}
 use Rattle.catalogue.specs.Records.{low_first}
 use Rattle.catalogue.proofs.Records.{length_low, low_taken}

@@ -11,7 +11,7 @@ ghost use Rattle.messages.specs.Refusals.{number_in};
 ghost use Rattle.catalogue.specs.Bytes.{catalogue_bytes, most_bytes, bytes_in, held_catalogue, size_refusal, CatalogueWritten};
 ghost use Rattle.catalogue.specs.Parts.{catalogue_in_parts};
 
-use laptop::{Held, Laptop, RUN_WORDS};
+use laptop::{Laptop, RUN_WORDS};
 use messages::{Refusal, first};
 use numbers::{OBJECT_SIZE, put_number, put_words};
 use parts::Parts;
@@ -69,9 +69,7 @@ pub fn write_catalogue(
     if held_run.len() < RUN_WORDS {
         return Err(Refusal::TooShort);
     }
-    let Held::Catalogue(size) = laptop.held else {
-        return Err(Refusal::NotHeld);
-    };
+    let size = laptop.held.ok_or(Refusal::NotHeld)?;
     let parts = Parts {
         objects: first(held_identity, usize::from(size.extent)),
         svids: first(held_svids, usize::from(size.count)),

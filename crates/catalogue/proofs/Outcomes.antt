@@ -12,8 +12,7 @@ use Rattle.laws.proofs.Stores.{sets_front}
 use Rattle.laptop.specs.Catalogue.{Catalogue, run_words}
 use Rattle.std.specs.Prelude.{Option, Some, None}
 use Rattle.laptop.specs.declared.Size.{Size}
-use Rattle.catalogue.specs.Bytes.{catalogue_bytes, catalogue_of, least_objects, HeldCatalogue, nothing, holding, held_catalogue, size_refusal, held_refusal, catalogue_refusal, held_bytes, written_bytes, written_into, CatalogueWritten}
-use Rattle.catalogue.specs.declared.Bytes.{Bytes}
+use Rattle.catalogue.specs.Bytes.{Bytes, catalogue_bytes, catalogue_of, least_objects, HeldCatalogue, nothing, holding, held_catalogue, size_refusal, held_refusal, catalogue_refusal, held_bytes, written_bytes, written_into, CatalogueWritten}
 
 module _ (extent bytes room : ℕ) where
   pub size_few : extent < least_objects → 12 ≡ size_refusal extent bytes room

@@ -1,6 +1,6 @@
--- `size_refusal` meets its promise: its ways out are the definition's.
+-- `fitting` meets its promise: its ways out are the definition's.
 use Rattle.catalogue.proofs.Outcomes.{size_few, size_short, size_fits}
-use Rattle.catalogue.proofs.size_refusal.Goals as goal
+use Rattle.catalogue.proofs.fitting.Goals as goal
 
 pub returns-then-extent-lt-LEAST_OBJECTS : goal.returns-then-extent-lt-LEAST_OBJECTS
 returns-then-extent-lt-LEAST_OBJECTS c = size_few _ _ _ c.if-extent-lt-LEAST_OBJECTS.true
@@ -8,5 +8,5 @@ returns-then-extent-lt-LEAST_OBJECTS c = size_few _ _ _ c.if-extent-lt-LEAST_OBJ
 pub returns-then-room-bytes : goal.returns-then-room-bytes
 returns-then-room-bytes c = size_short _ _ _ c.if-extent-lt-LEAST_OBJECTS.false c.if-room-bytes.true
 
-pub returns : goal.returns
-returns c = size_fits _ _ _ c.if-extent-lt-LEAST_OBJECTS.false c.if-room-bytes.false
+pub returns-else-room-bytes : goal.returns-else-room-bytes
+returns-else-room-bytes c = size_fits _ _ _ c.if-extent-lt-LEAST_OBJECTS.false c.if-room-bytes.false

@@ -4,11 +4,10 @@ use messages::{Edition, ReadAs, lower};
 
 // The request as our dock has to hear it, so that it answers as the other does.
 pub(crate) fn lowered(request: [u8; REQUEST], highest: Edition) -> [u8; REQUEST] {
-    let outcome = reading::read(&request).outcome;
-    let ReadAs::Message(edition, head, _) = outcome else {
+    let ReadAs::Message(edition, head, _) = reading::read(&request).outcome else {
         return request;
     };
     let mut bytes = request;
-    writing::write(lower(edition, highest), head, &[0u32; 0], &mut bytes);
+    writing::write(lower(edition, highest), head, &[], &mut bytes);
     bytes
 }

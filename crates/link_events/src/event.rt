@@ -47,23 +47,19 @@ pub enum Event {
 }
 
 // Of the kinds that say a side.
-fn take_for_side(kind: u8) -> Result<(Side, Event), Stop> {
-    let linked = match without_side(kind) {
-        REQUEST_REACHES => linking::Event::RequestReaches,
-        REQUEST_LOST => linking::Event::RequestLost,
-        GIVE => linking::Event::Give,
-        BUSY => linking::Event::Busy,
-        ANSWER_ARRIVES => linking::Event::AnswerArrives,
-        ANSWER_LOST => linking::Event::AnswerLost,
-        SENT => linking::Event::Sent,
-        FAILED => linking::Event::Failed,
-        NEXT..=DROP | ENTER..=EXIT => {
-            let (side, call) = take_call(kind)?;
-            return Ok((side, Event::Call(call)));
-        }
-        _ => return Err(Stop::Unknown),
-    };
-    Ok((side_of(kind), Event::Linked(linked)))
+fn take_for_side(kind: u8) -> Result<Event, Stop> {
+    match without_side(kind) {
+        NEXT..=DROP | ENTER..=EXIT => Ok(Event::Call(take_call(kind)?)),
+        REQUEST_REACHES => Ok(Event::Linked(linking::Event::RequestReaches)),
+        REQUEST_LOST => Ok(Event::Linked(linking::Event::RequestLost)),
+        GIVE => Ok(Event::Linked(linking::Event::Give)),
+        BUSY => Ok(Event::Linked(linking::Event::Busy)),
+        ANSWER_ARRIVES => Ok(Event::Linked(linking::Event::AnswerArrives)),
+        ANSWER_LOST => Ok(Event::Linked(linking::Event::AnswerLost)),
+        SENT => Ok(Event::Linked(linking::Event::Sent)),
+        FAILED => Ok(Event::Linked(linking::Event::Failed)),
+        _ => Err(Stop::Unknown),
+    }
 }
 
 // The event that stands next, with the side that it says.
@@ -72,6 +68,6 @@ pub fn take_event() -> Result<(Side, Event), Stop> {
         TIMER => Ok((Side::Partner, Event::Timer)),
         PROTOCOL_ERROR => Ok((Side::Partner, Event::ProtocolError)),
         NEW_STREAM => Err(Stop::NewStream),
-        kind => take_for_side(kind),
+        kind => Ok((side_of(kind), take_for_side(kind)?)),
     }
 }

@@ -30,13 +30,13 @@ use Rattle.laptop_laws.proofs.MessageGiven.{identity_number, mode_number}
 use Rattle.laptop.specs.Calls.{sends, step_of, short_runs, is_awaiting}
 use Rattle.laptop.specs.State.{awaiting, counted}
 use Rattle.laptop.specs.declared.Laptop.{Laptop}
-use Rattle.laptop.specs.declared.Step.{Step}
+use Rattle.laptop.specs.Step.{Step}
 use Rattle.owner.specs.Owner.{owner_refusal, request_message}
 use Rattle.gathering.specs.Gathering.{Gathering, most_pages, unless_last, take_as, take_page, none_gathered, hear_svids}
 use Rattle.answers.specs.Answers.{Storing, store_modes, hear_modes}
 use Rattle.records.specs.Records.{found_number}
-use Rattle.records.specs.declared.Found.{Found}
-use Rattle.records.specs.declared.Found.TheVariants.{Whole, Unknown, Cut, Nothing}
+use Rattle.records.specs.Records.{Found}
+use Rattle.records.specs.Records.{Whole, Unknown, Cut, Nothing}
 use Rattle.judging.specs.Judging.{judgement_of}
 use Rattle.catalogue_laws.proofs.Given.{only_these}
 use Rattle.rebuilding.specs.Rebuilding.{read_as}

@@ -1,6 +1,5 @@
 // The laptop end's calls off standard input.
 use events::{Call, Event, LONGEST_EVENT, Missing, body_length, read_event};
-use port::Side;
 use streams::finish::Stop;
 use streams::input::fill;
 
@@ -13,13 +12,13 @@ pub fn stop_at(missing: Missing) -> Stop {
     }
 }
 
-// The call of a kind, with its side and its body from standard input. The kind stands first, and the body is read behind it.
-pub fn take_call(kind: u8) -> Result<(Side, Call), Stop> {
+// The call of a kind, with its body from standard input. The kind stands first, and the body is read behind it.
+pub fn take_call(kind: u8) -> Result<Call, Stop> {
     let mut buffer = [kind; LONGEST_EVENT];
     let event = &mut buffer[..1 + body_length(kind)];
     fill(&mut event[1..])?;
     match read_event(event) {
-        Ok((Event::Call(side, call), _)) => Ok((side, call)),
+        Ok((Event::Call(_, call), _)) => Ok(call),
         _ => Err(Stop::Unknown),
     }
 }

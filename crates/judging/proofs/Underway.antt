@@ -12,8 +12,8 @@ use Rattle.laws.proofs.Stores.{sets_front}
 use Rattle.pages.specs.Lists.{most_svids}
 use Rattle.laptop.specs.Catalogue.{Catalogue}
 use Rattle.records.specs.Records.{cut_record, found_in, found_at, found_number}
-use Rattle.records.specs.declared.Found.{Found}
-use Rattle.records.specs.declared.Found.TheVariants.{Whole, Unknown, Cut, Nothing}
+use Rattle.records.specs.Records.{Found}
+use Rattle.records.specs.Records.{Whole, Unknown, Cut, Nothing}
 use Rattle.records.specs.declared.Record.{Record}
 use Rattle.records.specs.declared.Record.TheVariants.{Identity, Svid, Mode, End}
 use Rattle.records.proofs.Finding.{at_within}

@@ -4,8 +4,8 @@ use Rattle.std.proofs.lemmas.List.Edits.{sets}
 use Rattle.pages.specs.Lists.{most_svids}
 use Rattle.laptop.specs.Catalogue.{Catalogue}
 use Rattle.records.specs.Records.{cut_record, found_in, found_number}
-use Rattle.records.specs.declared.Found.{Found}
-use Rattle.records.specs.declared.Found.TheVariants.{Whole, Unknown, Cut, Nothing}
+use Rattle.records.specs.Records.{Found}
+use Rattle.records.specs.Records.{Whole, Unknown, Cut, Nothing}
 use Rattle.judging.specs.Walking.{svids_of, numbers_of, walk_of, is_end, may_follow, added}
 use Rattle.judging.specs.declared.Judged.{Judged}
 

@@ -7,6 +7,9 @@ use native.Mathlib.Omega.{arith}
 use native.Mathlib.Numerals.{add-one}
 use lib.ListN.{length, get_or, take, drop, set}
 use lib.Seq.{sets, sets-eq, take-suc, length-take-le}
+use borrow.Rule.Slice.PartMut.{put_mid}
+use Rattle.std.proofs.Common.{append_assoc}
+use Rattle.std.proofs.lemmas.List.{drop-drop}
 
 module _ {A : Type 0} where
   pub sets_append : (l : List A) (i : ℕ) (vs ws : List A) → sets l i (vs ++ ws) ≡ sets (sets l i vs) (i + length vs) ws
@@ -30,3 +33,7 @@ module _ {A : Type 0} where
       sym
       (ap (sets l at) more ∙ sets_append l at (take i vs) (get_or vs i d ∷ []) ∙
       ap (λ (k : ℕ). set (sets l at (take i vs)) (at + k) (get_or vs i d)) size)
+
+  -- a part that is lent, and is left as some values
+  pub put_part : (at k : ℕ) (l part vs : List A) → part ≡ vs → k ≡ length vs → at + length vs ≤ length l → put_mid at k l part ≡ sets l at vs
+  put_part at k l part vs is size room = rw (is, size, drop-drop) (sym (append_assoc (take at l) vs (drop (at + length vs) l)) ∙ sym (sets-eq vs l at room))

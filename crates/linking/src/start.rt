@@ -19,11 +19,7 @@ fn read_dock() -> Option<Dock> {
     let mut svids = [0; MOST_SVIDS];
     let svids = read_some(&mut svids, fill_halves)?;
     let step = loading::load(dock::fresh(), identity, svids);
-    if step.refusal == 0 {
-        Some(step.dock)
-    } else {
-        None
-    }
+    (step.refusal == 0).then_some(step.dock)
 }
 
 // Of so many SVIDs. Each has a mode at least.

@@ -1,5 +1,6 @@
 -- The choice between two editions, its rule over all nine pairs, and editions by their numbers and version bits (02, R-5).
 use mathlib.Core.Logic.{◌⊎◌, inl, inr}
+use Rattle.std.specs.Prelude.{Some, None}
 use mathlib.Core.Path.{◌≡◌, refl, ap, sym, ◌∙◌}
 use mathlib.Core.Bool.{Bool, true, false, cond}
 use Prim.Native.Nat.{ℕ, ◌<◌, ◌≤◌}
@@ -9,8 +10,6 @@ use borrow.Author.Tests.{eq-eqb, ne_eqb, eqb-true, le-leb, lt-leb}
 use Rattle.messages.specs.Editions.{ours, major_of, minor_of, edition_of, edition_number, edition_named, lower}
 use Rattle.messages.specs.declared.edition.Edition.{Edition}
 use Rattle.messages.specs.declared.edition.Edition.TheVariants.{OneZero, TwoZero, TwoOne}
-use Rattle.messages.specs.declared.edition.Named.TheVariants.{Nothing}
-use Rattle.messages.specs.declared.edition.Named.TheVariants.{Edition as NamedEdition}
 
 -- what the lower of two is: one of them, and above neither
 pub record LowerOf (a b chosen : Edition) : Type 0 where
@@ -94,23 +93,23 @@ module _ (a b : Edition) {x y : ℕ} (ex : x ≡ edition_number a) (ey : y ≡ e
   lower_second h = simp (lt-leb (edition_number a) (edition_number b) (omega (arith, ex, ey, h)))
 
 -- a number that is no edition's
-pub named_none : (n : ℕ) → (n ≡ 10 → ⊥) → (n ≡ 20 → ⊥) → (n ≡ 21 → ⊥) → Nothing ≡ edition_named n
+pub named_none : (n : ℕ) → (n ≡ 10 → ⊥) → (n ≡ 20 → ⊥) → (n ≡ 21 → ⊥) → None ≡ edition_named n
 unfolding edition_named
 named_none n a b c = simp (ne_eqb _ _ a, ne_eqb _ _ b, ne_eqb _ _ c)
 
 -- a number names an edition exactly when it is the edition's
-pub named_number : (e : Edition) → edition_named (edition_number e) ≡ NamedEdition e
+pub named_number : (e : Edition) → edition_named (edition_number e) ≡ Some e
 unfolding edition_named
 named_number OneZero = refl
 named_number TwoZero = refl
 named_number TwoOne = refl
 
-pub number_named : (n : ℕ) (e : Edition) → edition_named n ≡ NamedEdition e → n ≡ edition_number e
+pub number_named : (n : ℕ) (e : Edition) → edition_named n ≡ Some e → n ≡ edition_number e
 unfolding edition_named
 number_named n e = go (eqb n 10) (eqb n 20) (eqb n 21) refl refl refl
   where
     go : (x y z : Bool) → eqb n 10 ≡ x → eqb n 20 ≡ y → eqb n 21 ≡ z →
-        cond x (NamedEdition OneZero) (cond y (NamedEdition TwoZero) (cond z (NamedEdition TwoOne) Nothing)) ≡ NamedEdition e → n ≡ edition_number e
+        cond x (Some OneZero) (cond y (Some TwoZero) (cond z (Some TwoOne) None)) ≡ Some e → n ≡ edition_number e
     go true y z ex ey ez f = eqb-true n 10 ex ∙ ap edition_number (let same : OneZero ≡ e = cc in same)
     go false true z ex ey ez f = eqb-true n 20 ey ∙ ap edition_number (let same : TwoZero ≡ e = cc in same)
     go false false true ex ey ez f = eqb-true n 21 ez ∙ ap edition_number (let same : TwoOne ≡ e = cc in same)

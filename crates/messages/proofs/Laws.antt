@@ -16,10 +16,10 @@ use Rattle.messages.specs.Layout.{head_of, Message, Representable, message_bytes
 use Rattle.messages.specs.Table.{row_of, counts_of, shape, allowed, first_head}
 use Rattle.messages.specs.Reading.{header_in, read_lines, read_refusal, message_in, Outcome, accepted, refused, read_outcome, shown}
 use Rattle.messages.specs.Writing.{well_shaped, write_refusal, written, Written}
-use Rattle.messages.specs.declared.ReadAs.TheVariants.{Refused}
-use Rattle.messages.specs.declared.ReadAs.TheVariants.{Message as ReadAsMessage}
+use Rattle.messages.specs.Reading.{Refused}
+use Rattle.messages.specs.Reading.{ReadAsMessage}
 use Rattle.messages.specs.declared.Head.{Head}
-use Rattle.messages.specs.declared.Reading.{Reading}
+use Rattle.messages.specs.Reading.{Reading}
 use Rattle.messages.specs.declared.edition.Edition.{Edition}
 use Rattle.messages.proofs.Refusals.{read_refused, outcome_refused}
 use Rattle.messages.proofs.RoundTrip.{read_bytes, bytes_read, accepted_shape, accepted_fits, message_bytes_lem}

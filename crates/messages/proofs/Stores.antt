@@ -2,7 +2,7 @@
 use mathlib.Core.Path.{◌≡◌, refl, ap, sym, ◌∙◌}
 use mathlib.Core.Bool.{Bool, true, false}
 use mathlib.Core.List.{List, [], ◌∷◌, ◌++◌, append_assoc, append-nil}
-use Prim.Native.Nat.{ℕ, ◌+◌, ◌*◌, ◌/◌, ◌%◌, ◌<◌, ◌≤◌}
+use Prim.Native.Nat.{ℕ, ◌+◌, ◌*◌, ◌<◌, ◌≤◌}
 use native.Mathlib.Nat.{div-one}
 use native.Mathlib.Numerals.{add-one, add-two, add-three}
 use native.Mathlib.Omega.{arith}
@@ -14,10 +14,12 @@ use Rattle.messages.specs.Layout.{bytes_of_object, bytes_of, header_of, Message,
 use Rattle.messages.specs.Table.{shape}
 use Rattle.messages.specs.Writing.{well_shaped, write_refusal, written, Written}
 use Rattle.messages.specs.declared.edition.Edition.{Edition}
+use Rattle.std.specs.Int.{to_le_bytes}
+use Rattle.std.specs.Int.{w32}
 use Rattle.messages.proofs.Objects.{length_bytes}
 use Rattle.messages.proofs.Rule.{shape_count}
 
-pub object_bytes : (w : ℕ) → w % 256 ∷ w / 256 % 256 ∷ w / 65536 % 256 ∷ w / 16777216 % 256 ∷ [] ≡ bytes_of_object w
+pub object_bytes : (w : ℕ) → to_le_bytes w32 w ≡ bytes_of_object w
 unfolding bytes_of_object
 object_bytes w = rw div-one
 

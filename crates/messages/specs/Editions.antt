@@ -1,10 +1,7 @@
 -- The editions of Structured VDMs: what the version bits of a header say, and the lower of two (02, R-5).
-use Rattle.std.specs.Prelude.{ℕ, cond, leb, eqb}
+use Rattle.std.specs.Prelude.{ℕ, cond, leb, eqb, Option, Some, None}
 use Rattle.messages.specs.declared.edition.Edition.{Edition}
 use Rattle.messages.specs.declared.edition.Edition.TheVariants.{OneZero, TwoZero, TwoOne}
-use Rattle.messages.specs.declared.edition.Named.{Named}
-use Rattle.messages.specs.declared.edition.Named.TheVariants.{Nothing}
-use Rattle.messages.specs.declared.edition.Named.TheVariants.{Edition as NamedEdition}
 
 -- our highest
 abbrev pub ours : Edition
@@ -32,10 +29,10 @@ edition_number TwoZero = 20
 edition_number TwoOne = 21
 
 -- the edition that a number names
-unfoldable pub edition_named : ℕ → Named
+unfoldable pub edition_named : ℕ → Option Edition
 edition_named number =
-    cond (eqb number 10) (NamedEdition OneZero)
-    (cond (eqb number 20) (NamedEdition TwoZero) (cond (eqb number 21) (NamedEdition TwoOne) Nothing))
+    cond (eqb number 10) (Some OneZero)
+    (cond (eqb number 20) (Some TwoZero) (cond (eqb number 21) (Some TwoOne) None))
 
 -- THE CHOICE: the lower of two
 unfoldable pub lower : Edition → Edition → Edition

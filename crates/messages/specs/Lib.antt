@@ -2,6 +2,7 @@
 pub mod Editions
 pub mod Layout
 pub mod Reading
+pub mod Refusals
 pub mod Requests
 pub mod Table
 pub mod Writing

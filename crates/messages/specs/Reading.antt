@@ -1,14 +1,14 @@
 -- Reading a message: refusals 1, 2, 3 and 5 in their order, or the message with its edition (01, "Message layout" and "Refusal numbers"; 02, R-2, R-5).
-use Rattle.std.specs.Prelude.{ℕ, ◌/◌, ◌%◌, Bool, false, cond, not, ◌&&◌, List, [], ◌∷◌, leb, eqb, length, get_or, drop, replicate}
+use Rattle.std.specs.Prelude.{ℕ, Result, Ok, Err, ◌/◌, ◌%◌, Bool, false, cond, not, ◌&&◌, List, [], ◌∷◌, leb, eqb, length, get_or, drop, replicate}
 use Rattle.laws.specs.Lines.{first_line}
 use Rattle.laws.specs.Padded.{padded}
 use Rattle.messages.specs.Layout.{objects_of, structured, major, edition_said, head_of, Message}
 use Rattle.messages.specs.Table.{shape}
-use Rattle.messages.specs.declared.Reading.{Reading}
+use Rattle.messages.specs.Refusals.{number_of}
+use Rattle.messages.specs.declared.Head.{Head}
+use Rattle.messages.specs.declared.Received.{Received}
 use Rattle.messages.specs.declared.edition.Edition.{Edition}
-use Rattle.messages.specs.declared.ReadAs.{ReadAs}
-use Rattle.messages.specs.declared.ReadAs.TheVariants.{Message as ReadAsMessage}
-use Rattle.messages.specs.declared.ReadAs.TheVariants.{Refused}
+use Rattle.messages.specs.declared.refusal.Refusal.{Refusal}
 
 -- bytes are not 4, 8, .. 28
 abbrev pub wrong_length : ℕ → Bool
@@ -66,7 +66,15 @@ read_outcome b = outcome (read_refusal b) (edition_in b) (message_in b)
 abbrev pub objects_in : List ℕ → List ℕ
 objects_in b = padded (drop 1 (objects_of b))
 
--- how the code shows an outcome: 01's number, or its values
+-- an outcome shown: 01's number, or its values
+pub data ReadAs : Type 0 where
+  ReadAsMessage : Edition → Head → ℕ → ReadAs
+  Refused : ℕ → ReadAs
+
+pub record Reading : Type 0 where
+  pub outcome : ReadAs
+  pub objects : List ℕ
+
 unfoldable pub shown : Outcome → Reading
 shown (accepted e m) = record { outcome = ReadAsMessage e m.head (length m.objects); objects = padded m.objects }
 shown (refused number) = record { outcome = Refused number; objects = replicate 6 0 }
@@ -75,3 +83,8 @@ shown (refused number) = record { outcome = Refused number; objects = replicate 
 abbrev pub read_number : ReadAs → ℕ
 read_number (ReadAsMessage e h count) = 0
 read_number (Refused number) = number
+
+-- how the code shows it: a message, or a refusal by its name
+abbrev pub as_shown : Result Received Refusal → Reading
+as_shown (Ok r) = record { outcome = ReadAsMessage r.edition r.head r.count; objects = r.objects }
+as_shown (Err refusal) = record { outcome = Refused (number_of refusal); objects = replicate 6 0 }

@@ -1,12 +1,9 @@
 -- Writing a message at an edition into a lent buffer: refusal 5, then 11, or just its bytes (01, "Message layout" and "Refusal numbers"; 02, R-5).
-use Rattle.std.specs.Prelude.{◌≡◌, ℕ, ◌+◌, Bool, cond, not, List, ◌++◌, ltb, eqb, length, drop}
+use Rattle.std.specs.Prelude.{◌≡◌, ℕ, Option, Some, None, ◌+◌, Bool, cond, not, List, ◌++◌, ltb, eqb, length, drop}
 use Rattle.messages.specs.Layout.{Message, message_bytes, message_length}
 use Rattle.messages.specs.Editions.{edition_named}
 use Rattle.messages.specs.Table.{shape}
 use Rattle.messages.specs.declared.edition.Edition.{Edition}
-use Rattle.messages.specs.declared.edition.Named.{Named}
-use Rattle.messages.specs.declared.edition.Named.TheVariants.{Nothing}
-use Rattle.messages.specs.declared.edition.Named.TheVariants.{Edition as NamedEdition}
 
 -- the header is counted
 unfoldable pub well_shaped : Message → Bool
@@ -26,9 +23,9 @@ pub record Written (e : Edition) (m : Message) (out : List ℕ) (number : ℕ) (
   pub buffer_is : after ≡ written e m out
 
 -- at the edition that a number names; a number that names none is 5
-abbrev pub WrittenBy : Named → Message → List ℕ → ℕ → List ℕ → Type 0
-WrittenBy Nothing m out number after = (number ≡ 5) × (after ≡ out)
-WrittenBy (NamedEdition e) m out number after = Written e m out number after
+abbrev pub WrittenBy : Option Edition → Message → List ℕ → ℕ → List ℕ → Type 0
+WrittenBy None m out number after = (number ≡ 5) × (after ≡ out)
+WrittenBy (Some e) m out number after = Written e m out number after
 
 abbrev pub WrittenAs : ℕ → Message → List ℕ → ℕ → List ℕ → Type 0
 WrittenAs edition m out number after = WrittenBy (edition_named edition) m out number after

@@ -3,13 +3,17 @@
 // Structured VDMs of USB Power Delivery: document 01, "Message layout". What a message is made of, and the table. `reading` reads one off bytes,
 // `writing` writes one.
 mod edition;
+mod items;
 mod object;
+mod refusal;
 mod request;
 mod table;
 
-pub use edition::{Edition, Named, OURS, edition_named, edition_number, lower};
-pub use object::{bytes_of, first_objects};
-pub use request::{Request, head_for, request_of, same_request};
+pub use edition::{Edition, OURS, lower};
+pub use items::{first, item_or};
+pub use object::bytes_of;
+pub use refusal::Refusal;
+pub use request::{Request, head_for, same_request};
 pub use table::shape;
 
 // What a VDM header says, its edition left out: nothing that is compared looks at that. 01's types are numbers here: REQ, ACK, NAK, BUSY.
@@ -43,16 +47,11 @@ pub const EXIT: u8 = 5;
 
 pub const ATTENTION: u8 = 6;
 
-// A message's edition, its head and the number of objects after the header, or a refusal number.
+// A message that was read: its edition, its head, and the number of objects after the header, which stand first among the six words, with zeros behind them.
 #[derive(Clone, Copy)]
-pub enum ReadAs {
-    Message(Edition, Head, u8),
-    Refused(u8),
-}
-
-// What reading gives: the objects after the header stand first among the six words, and zeros behind them.
-#[derive(Clone, Copy)]
-pub struct Reading {
-    pub outcome: ReadAs,
+pub struct Received {
+    pub edition: Edition,
+    pub head: Head,
+    pub count: u8,
     pub objects: [u32; 6],
 }

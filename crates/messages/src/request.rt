@@ -4,33 +4,29 @@ ghost use Rattle.messages.specs.Requests.{request_of, same_request, head_for};
 
 use crate::Head;
 
-#[derive(Clone, Copy)]
+#[derive(Clone, Copy, PartialEq, Eq)]
 pub struct Request {
     pub svid: u16,
     pub command: u8,
     pub position: u8,
 }
 
-pub fn request_of(head: Head) -> Request
-    ensures { result ≡ request_of head }
-{
-    Request {
-        svid: head.svid,
-        command: head.command,
-        position: head.position,
+impl From<Head> for Request {
+    ghost from_gives = { λ head request. request ≡ request_of head };
+
+    fn from(head: Head) -> Request {
+        Request {
+            svid: head.svid,
+            command: head.command,
+            position: head.position,
+        }
     }
 }
 
 pub fn same_request(a: Request, b: Request) -> bool
     ensures { result ≡ same_request a b }
 {
-    if a.svid != b.svid {
-        return false;
-    }
-    if a.command != b.command {
-        return false;
-    }
-    a.position == b.position
+    a == b
 }
 
 // The head of the request, or of an answer to it.

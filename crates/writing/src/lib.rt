@@ -6,9 +6,10 @@ ghost use Rattle.std.specs.Prelude.{◌≡◌, ◌+◌, ◌*◌, ◌<◌, ◌≤
 ghost use Rattle.std.proofs.lemmas.List.Edits.{sets};
 ghost use Rattle.messages.specs.Editions.{major_of, minor_of};
 ghost use Rattle.messages.specs.Layout.{bytes_of_object, bytes_of, header_of};
+ghost use Rattle.messages.specs.Refusals.{number_in};
 ghost use Rattle.messages.specs.Writing.{Written, WrittenAs};
 
-use messages::{Edition, Head, Named, bytes_of, edition_named, shape};
+use messages::{Edition, Head, Refusal, bytes_of, shape};
 
 // Structured, and the edition's major and minor.
 fn version_of(edition: Edition) -> u32
@@ -37,11 +38,7 @@ fn put_object(out: &mut [u8], at: usize, object: u32)
     requires { at + 4 ≤ length out.old }
     ensures { out.new ≡ sets out.old at (bytes_of_object object) }
 {
-    let bytes = bytes_of(object);
-    out[at] = bytes[0];
-    out[at + 1] = bytes[1];
-    out[at + 2] = bytes[2];
-    out[at + 3] = bytes[3];
+    out[at..at + 4].copy_from_slice(&bytes_of(object));
 }
 
 // The objects behind the header.
@@ -49,37 +46,38 @@ fn put_objects(out: &mut [u8], objects: &[u32])
     requires { 4 + length objects.now * 4 ≤ length out.old }
     ensures { out.new ≡ sets out.old 4 (bytes_of objects.now) }
 {
-    let mut i = 0;
-    while i < objects.len() {
-        put_object(out, 4 + i * 4, objects[i]);
-        i += 1;
+    for (i, object) in objects.iter().enumerate() {
+        put_object(out, 4 + i * 4, *object);
     }
 }
 
-pub fn write(edition: Edition, head: Head, objects: &[u32], out: &mut [u8]) -> u8
-    ensures { Written edition (record { head = head; objects = objects.now }) out.old result out.new }
+// Refused 5 for a shape that is not one of the table's, then 11 for a buffer that is too short.
+pub fn write(edition: Edition, head: Head, objects: &[u32], out: &mut [u8]) -> Result<(), Refusal>
+    ensures { Written edition (record { head = head; objects = objects.now }) out.old (number_in result) out.new }
 {
     let n = objects.len();
     if 6 < n {
-        return 5;
+        return Err(Refusal::WrongShape);
     }
-    if shape(head, (n + 1) as u8) {
-        if out.len() < n * 4 + 4 {
-            return 11;
-        }
-        put_object(out, 0, header_of(edition, head));
-        put_objects(out, objects);
-        return 0;
+    if !shape(head, (n + 1) as u8) {
+        return Err(Refusal::WrongShape);
     }
-    5
+    if out.len() < n * 4 + 4 {
+        return Err(Refusal::TooShort);
+    }
+    put_object(out, 0, header_of(edition, head));
+    put_objects(out, objects);
+    Ok(())
 }
 
 // At the edition that a number names: 10, 20 or 21. Any other is refused 5.
-pub fn write_numbered(edition: u8, head: Head, objects: &[u32], out: &mut [u8]) -> u8
-    ensures { WrittenAs edition (record { head = head; objects = objects.now }) out.old result out.new }
+pub fn write_numbered(
+    edition: u8,
+    head: Head,
+    objects: &[u32],
+    out: &mut [u8],
+) -> Result<(), Refusal>
+    ensures { WrittenAs edition (record { head = head; objects = objects.now }) out.old (number_in result) out.new }
 {
-    match edition_named(edition) {
-        Named::Edition(at) => write(at, head, objects, out),
-        Named::Nothing => 5,
-    }
+    write(Edition::try_from(edition)?, head, objects, out)
 }

@@ -1,17 +1,10 @@
--- `put_object` meets its promise: four stores, side by side.
+-- `put_object` meets its promise.
+use mathlib.Core.Path.{◌∙◌}
 use native.Mathlib.Omega.{arith}
-use lib.ListN.{length-set}
-use Rattle.messages.proofs.Stores.{store_object}
+use Rattle.laws.proofs.Stores.{put_part}
+use Rattle.messages.specs.Layout.{bytes_of_object}
 use Rattle.writing.proofs.put_object.Goals as goal
 
-pub bounds-out-at-2 : goal.bounds-out-at-2
-bounds-out-at-2 c = simp length-set (omega arith)
-
-pub bounds-out-at-3 : goal.bounds-out-at-3
-bounds-out-at-3 c = simp length-set (omega arith)
-
-pub bounds-out-at-4 : goal.bounds-out-at-4
-bounds-out-at-4 c = simp length-set (omega arith)
-
 pub returns : goal.returns
-returns c = store_object c.args.out.now c.args.at c.bytes_of-bytes.result c.args.object c.bytes_of-bytes.ensures
+unfolding bytes_of_object
+returns c = put_part c.args.at _ c.args.out.now _ _ (c.copy_from_slice.ensures.after ∙ c.bytes_of.ensures) (omega arith) (omega (arith, c.requires))

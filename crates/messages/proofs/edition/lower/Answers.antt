@@ -2,8 +2,8 @@
 use Rattle.messages.proofs.Editions.{lower_first, lower_second}
 use Rattle.messages.proofs.edition.lower.Goals as goal
 
-pub returns-then-edition_number : goal.returns-then-edition_number
-returns-then-edition_number c = lower_first c.args.a c.args.b c.edition_number.ensures c.edition_number-2.ensures c.if-edition_number.true
+pub returns-then-from : goal.returns-then-from
+returns-then-from c = lower_first c.args.a c.args.b c.from.ensures c.from-2.ensures c.if-from.true
 
-pub returns : goal.returns
-returns c = lower_second c.args.a c.args.b c.edition_number.ensures c.edition_number-2.ensures c.if-edition_number.false
+pub returns-else-from : goal.returns-else-from
+returns-else-from c = lower_second c.args.a c.args.b c.from.ensures c.from-2.ensures c.if-from.false

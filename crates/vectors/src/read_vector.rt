@@ -1,11 +1,10 @@
 // A read vector: the length of a message, then its bytes.
-use crate::{LONGEST, begin_line};
+use crate::Line;
 use messages::{Received, Refusal, first};
 use streams::finish::Stop;
 use streams::input::{GREATEST, fill, read_byte};
-use text::line::Line;
 
-fn add_received(line: &mut Line<LONGEST>, received: Received) {
+fn add_received(line: &mut Line, received: Received) {
     let head = received.head;
     line.byte(b'0');
     line.edition(u8::from(received.edition));
@@ -18,7 +17,7 @@ fn add_received(line: &mut Line<LONGEST>, received: Received) {
 }
 
 fn print_answer(number: u64, answer: Result<Received, Refusal>) {
-    let mut line = begin_line(number, b" read ");
+    let mut line = Line::numbered(number, b" read ");
     match answer {
         Ok(received) => add_received(&mut line, received),
         Err(refusal) => line.decimal(u64::from(u8::from(refusal))),

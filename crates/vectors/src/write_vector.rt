@@ -1,5 +1,5 @@
 // A write vector: what a header says, the number of an edition, the room for the output, the number of objects, then the objects.
-use crate::begin_line;
+use crate::Line;
 use messages::{Head, Refusal};
 use streams::finish::Stop;
 use streams::input::{GREATEST, fill_words, read_bytes};
@@ -8,7 +8,7 @@ use streams::input::{GREATEST, fill_words, read_bytes};
 const UNWRITTEN: u8 = 0x5A;
 
 fn print_answer(number: u64, answer: Result<(), Refusal>, output: &[u8]) {
-    let mut line = begin_line(number, b" write ");
+    let mut line = Line::numbered(number, b" write ");
     line.decimal(match answer {
         Ok(()) => 0,
         Err(refusal) => u64::from(u8::from(refusal)),

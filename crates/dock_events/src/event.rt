@@ -4,7 +4,8 @@ use messages::{Refusal, Request};
 use streams::finish::Stop;
 use streams::input::{GREATEST, fill, fill_halves, fill_words, read_byte, read_bytes};
 
-// The kinds of event: each is met in one place, so an enum of them would only say them again. From 1 to MOST_OBJECTS, a kind is a message of that many objects.
+// The kinds of event: each is met in one place, so an enum of them would only say them again. From 1 to MOST_OBJECTS, a
+// kind is a message of that many objects.
 const MOST_OBJECTS: u8 = 7;
 
 const MESSAGE: u8 = 0x08;

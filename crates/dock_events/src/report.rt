@@ -23,14 +23,6 @@ fn add_answer(line: &mut Line<LONGEST>, answer: Answer) {
     }
 }
 
-fn add_output(line: &mut Line<LONGEST>, output: &[u8]) {
-    if output.is_empty() {
-        line.nothing();
-    } else {
-        line.spaced_bytes(output);
-    }
-}
-
 fn add_dock(line: &mut Line<LONGEST>, dock: Dock) {
     match dock.standing {
         Standing::Ready => line.text(b" ready"),
@@ -47,7 +39,7 @@ pub fn print_event(number: u64, answer: Answer, dock: Dock, output: &[u8]) {
     let mut line = Line::new();
     line.decimal(number);
     add_answer(&mut line, answer);
-    add_output(&mut line, output);
+    line.bytes_or_nothing(output);
     add_dock(&mut line, dock);
     line.print_line();
 }

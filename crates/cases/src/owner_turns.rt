@@ -1,47 +1,35 @@
 // The turns of the laptop end's owner, all on the partner's side: it asks what it needs next, and hears an answer.
-use crate::written::{Message, nothing};
-use driving::owning;
+use crate::written::{LONGEST, Message};
 use driving::owning::Owner;
 use events::Call;
 use laptop::Laptop;
-use port::{Side, seen};
-use streams::input::first_bytes;
+use port::Side;
 
-// What a call gave: the refusal number, the request to send, and the owner after it.
+// What a call gave: the refusal number, and the request to send.
 #[derive(Clone, Copy)]
 pub struct Turn {
     pub refusal: u8,
     pub request: Message,
-    pub owner: Owner,
 }
 
 // The laptop of document 01.
-pub fn laptop_of(owner: Owner) -> Laptop {
-    seen(Side::Partner, owner.port)
+pub fn laptop_of(owner: &Owner) -> Laptop {
+    owner.laptop(Side::Partner)
 }
 
-pub fn next(owner: Owner) -> Turn {
-    let mut bytes = nothing().bytes;
-    let turn = owning::make(owner, Side::Partner, Call::Next, &mut bytes);
-    let step = turn.step;
-    let owner = turn.owner;
+pub fn next(owner: &mut Owner) -> Turn {
+    let mut bytes = [0; LONGEST];
+    let step = owner.make(Side::Partner, Call::Next, &mut bytes);
     Turn {
         refusal: step.refusal,
-        request: Message {
-            bytes,
-            length: step.length as usize,
-        },
-        owner,
+        request: Message::new(bytes, usize::from(step.length)),
     }
 }
 
-pub fn hear(owner: Owner, message: Message) -> Turn {
-    let bytes = message.bytes;
-    let turn = owning::hear(owner, Side::Partner, first_bytes(&bytes, message.length));
-    let owner = turn.owner;
+pub fn hear(owner: &mut Owner, message: Message) -> Turn {
+    let step = owner.hear(Side::Partner, message.bytes());
     Turn {
-        refusal: turn.step.refusal,
-        request: nothing(),
-        owner,
+        refusal: step.refusal,
+        request: Message::nothing(),
     }
 }

@@ -1,6 +1,6 @@
 // Cases 1 to 8: what the dock answers to Discover SVIDs at 2.0, until the page stays.
 use crate::report::{add_message, add_named, begin_case};
-use crate::responder::{load, reply};
+use crate::responder::{after, load, reply};
 use crate::written::Message;
 use dock::{Dock, Policy};
 use messages::{PD_SID, REQ, SVIDS};
@@ -26,7 +26,7 @@ pub fn print_answers(case: u8, count: usize) {
         let page = dock.page;
         let answer = reply(&mut dock, Policy::Give, request);
         print_answer(case, number, &dock, answer);
-        dock = confirming::sent(dock).dock;
+        dock = after(dock, confirming::sent(dock));
         if dock.page == page {
             break;
         }

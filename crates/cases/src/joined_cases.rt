@@ -1,7 +1,7 @@
 // Cases 11 and 12: both ends, joined.
 use crate::link::Ends;
 use crate::owner_turns::laptop_of;
-use crate::report::{add_catalogue, add_message, add_named, add_refusal, begin_case};
+use crate::report::{add_catalogue, add_message, add_named, add_refused, begin_case};
 use crate::written::Message;
 use dock::Policy;
 use driving::fields::add_held;
@@ -38,7 +38,7 @@ fn print_refused(page: Message, ends: &Ends) {
     add_message(&mut line, page);
     line.text(b", then");
     add_message(&mut line, ends.answer);
-    add_refusal(&mut line, ends.refusal);
+    add_refused(&mut line, ends.outcome);
     line.print_line();
 }
 

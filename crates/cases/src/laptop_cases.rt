@@ -1,9 +1,9 @@
 // Case 10 and Case L: what the laptop does with answers that are given to it, all at 2.0.
 use crate::owner_turns::{Turn, hear, laptop_of, next};
-use crate::report::{add_catalogue, add_message, add_named, add_refusal, begin_case};
+use crate::report::{add_catalogue, add_message, add_named, add_refused, begin_case};
 use crate::responder::{IDENTITY_OBJECTS, MODE};
 use crate::written::Message;
-use driving::fields::add_held;
+use driving::fields::{add_held, add_outcome};
 use driving::line::Line;
 use driving::owning::Owner;
 use messages::{ACK, IDENTITY, MODES, PD_SID, SVIDS};
@@ -26,7 +26,7 @@ pub fn print_bad_page() {
     let heard = hear(&mut owner, page);
     let mut line = begin_case(10);
     add_message(&mut line, page);
-    add_refusal(&mut line, heard.refusal);
+    add_refused(&mut line, heard.outcome);
     line.print_line();
 }
 
@@ -35,7 +35,7 @@ fn print_turn(number: u8, turn: Turn, owner: &Owner) {
     let laptop = laptop_of(owner);
     let mut line = Line::new();
     add_named(&mut line, b"case L:", number);
-    line.field(turn.refusal);
+    add_outcome(&mut line, turn.outcome);
     if turn.request.bytes().is_empty() {
         line.nothing();
     } else {

@@ -1,21 +1,22 @@
 // Both ends, joined by hand: what one sends is given to the other.
 use crate::owner_turns::{hear, laptop_of, next};
-use crate::responder::{load, reply};
+use crate::responder::{after, load, reply};
 use crate::written::Message;
 use dock::{Dock, Policy};
 use driving::owning::Owner;
 use laptop::Candidate;
+use messages::Refusal;
 
 // A proved loop has to end. No case has so many requests.
 const BUDGET: usize = 100;
 
-// The last answer of the dock and its refusal by the laptop stand beside the two ends.
+// The last answer of the dock and what it led to at the laptop stand beside the two ends.
 #[derive(Clone, Copy)]
 pub struct Ends {
     pub owner: Owner,
     pub dock: Dock,
     pub answer: Message,
-    pub refusal: u8,
+    pub outcome: Result<(), Refusal>,
 }
 
 impl Ends {
@@ -27,7 +28,7 @@ impl Ends {
             owner: Owner::new(0),
             dock,
             answer: Message::nothing(),
-            refusal: 0,
+            outcome: Ok(()),
         }
     }
 
@@ -39,16 +40,16 @@ impl Ends {
     pub fn exchange(&mut self, policy: Policy) {
         let asked = next(&mut self.owner);
         let answer = reply(&mut self.dock, policy, asked.request);
-        self.refusal = hear(&mut self.owner, answer).refusal;
+        self.outcome = hear(&mut self.owner, answer).outcome;
         self.answer = answer;
     }
 
     pub fn confirm(&mut self) {
-        self.dock = confirming::sent(self.dock).dock;
+        self.dock = after(self.dock, confirming::sent(self.dock));
     }
 
     pub fn fail(&mut self) {
-        self.dock = confirming::failed(self.dock).dock;
+        self.dock = after(self.dock, confirming::failed(self.dock));
     }
 
     pub fn confirmed_exchange(&mut self, policy: Policy) {
@@ -59,7 +60,7 @@ impl Ends {
     // Confirmed exchanges as long as there is a candidate.
     pub fn gather(&mut self) {
         for _ in 0..BUDGET {
-            if matches!(laptop_of(&self.owner).candidate, Candidate::Absent) {
+            if laptop_of(&self.owner).candidate == Candidate::Absent {
                 break;
             }
             self.confirmed_exchange(Policy::Give);

@@ -3,12 +3,13 @@ use crate::written::{LONGEST, Message};
 use driving::owning::Owner;
 use events::Call;
 use laptop::Laptop;
+use messages::Refusal;
 use port::Side;
 
-// What a call gave: the refusal number, and the request to send.
+// What a call gave, and the request to send.
 #[derive(Clone, Copy)]
 pub struct Turn {
-    pub refusal: u8,
+    pub outcome: Result<(), Refusal>,
     pub request: Message,
 }
 
@@ -19,17 +20,22 @@ pub fn laptop_of(owner: &Owner) -> Laptop {
 
 pub fn next(owner: &mut Owner) -> Turn {
     let mut bytes = [0; LONGEST];
-    let step = owner.make(Side::Partner, Call::Next, &mut bytes);
-    Turn {
-        refusal: step.refusal,
-        request: Message::new(bytes, usize::from(step.length)),
+    match owner.make(Side::Partner, Call::Next, &mut bytes) {
+        Ok(accepted) => Turn {
+            outcome: Ok(()),
+            request: Message::new(bytes, usize::from(accepted.length)),
+        },
+        Err(refused) => Turn {
+            outcome: Err(refused.refusal),
+            request: Message::nothing(),
+        },
     }
 }
 
 pub fn hear(owner: &mut Owner, message: Message) -> Turn {
-    let step = owner.hear(Side::Partner, message.bytes());
+    let stepped = owner.hear(Side::Partner, message.bytes());
     Turn {
-        refusal: step.refusal,
+        outcome: stepped.map(|_| ()).map_err(|refused| refused.refusal),
         request: Message::nothing(),
     }
 }

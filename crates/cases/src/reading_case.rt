@@ -1,7 +1,7 @@
 // Case 9: what a header reads as.
-use crate::report::{add_named, add_objects, add_refusal, begin_case};
+use crate::report::{add_named, add_objects, add_refused, begin_case};
 use driving::line::Line;
-use messages::{Head, ReadAs};
+use messages::Head;
 
 const HEADER: u32 = 0xFF01A104;
 
@@ -17,9 +17,9 @@ pub fn print_reading() {
     let bytes = HEADER.to_le_bytes();
     let mut line = begin_case(9);
     add_objects(&mut line, &bytes);
-    match reading::read(&bytes).outcome {
-        ReadAs::Message(_, head, _) => add_head(&mut line, head),
-        ReadAs::Refused(refusal) => add_refusal(&mut line, refusal),
+    match reading::read(&bytes) {
+        Ok(received) => add_head(&mut line, received.head),
+        Err(refusal) => add_refused(&mut line, Err(refusal)),
     }
     line.print_line();
 }

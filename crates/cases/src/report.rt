@@ -1,9 +1,10 @@
 // The parts of a case's lines.
 use crate::owner_turns::laptop_of;
 use crate::written::Message;
-use driving::fields::add_held;
+use driving::fields::{add_held, add_outcome};
 use driving::line::Line;
 use driving::owning::Owner;
+use messages::Refusal;
 use port::Side;
 use streams::input::first_bytes;
 
@@ -36,16 +37,17 @@ pub fn add_message(line: &mut Line, message: Message) {
     add_objects(line, message.bytes());
 }
 
-pub fn add_refusal(line: &mut Line, refusal: u8) {
-    add_named(line, b": refused", refusal);
+pub fn add_refused(line: &mut Line, outcome: Result<(), Refusal>) {
+    line.text(b": refused");
+    add_outcome(line, outcome);
 }
 
 pub fn add_catalogue(line: &mut Line, owner: &Owner) {
     let mut buffer = [0; CATALOGUE];
-    let written = owner.write_held(Side::Partner, &mut buffer);
+    let length = owner.write_held(Side::Partner, &mut buffer).unwrap_or(0);
     line.text(b" held");
     add_held(line, laptop_of(owner).held);
-    add_named(line, b", catalogue of", written.length);
+    add_named(line, b", catalogue of", length);
     line.text(b" bytes ");
-    line.bytes(first_bytes(&buffer, usize::from(written.length)));
+    line.bytes(first_bytes(&buffer, usize::from(length)));
 }

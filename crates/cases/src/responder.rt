@@ -1,7 +1,7 @@
 // The dock as the cases have it: its data, and policy behind it.
 use crate::written::{LONGEST, Message};
-use dock::{Dock, Policy, Standing};
-use messages::{MODES, first_objects};
+use dock::{Accepted, Dock, Policy, Standing};
+use messages::{MODES, Refusal, first};
 use pages::{MOST_SVIDS, first_svids};
 
 pub const IDENTITY_OBJECTS: [u32; 3] = [1, 2, 3];
@@ -18,9 +18,15 @@ fn svids() -> [u16; MOST_SVIDS] {
     svids
 }
 
+// A dock that refuses stays as it was.
+pub fn after(dock: Dock, stepped: Result<Accepted, Refusal>) -> Dock {
+    stepped.map_or(dock, |accepted| accepted.dock)
+}
+
 // Loads the first SVIDs.
 pub fn load(dock: &mut Dock, count: usize) {
-    *dock = loading::load(*dock, &IDENTITY_OBJECTS, first_svids(&svids(), count)).dock;
+    let stepped = loading::load(*dock, &IDENTITY_OBJECTS, first_svids(&svids(), count));
+    *dock = after(*dock, stepped);
 }
 
 // How many objects Give brings.
@@ -31,12 +37,16 @@ fn given(command: u8) -> usize {
 // The request is taken, and policy answers it.
 pub fn reply(dock: &mut Dock, policy: Policy, request: Message) -> Message {
     let mut out = [0; LONGEST];
-    *dock = receiving::message(*dock, request.bytes(), &mut out).dock;
+    *dock = after(*dock, receiving::message(*dock, request.bytes(), &mut out));
     let Standing::Asking(request) = dock.standing else {
         return Message::nothing();
     };
-    let objects = first_objects(&[MODE], given(request.command));
-    let step = answering::policy_answer(*dock, policy, request, objects, &mut out);
-    *dock = step.dock;
-    Message::new(out, usize::from(step.length))
+    let objects = first(&[MODE], given(request.command));
+    match answering::policy_answer(*dock, policy, request, objects, &mut out) {
+        Ok(accepted) => {
+            *dock = accepted.dock;
+            Message::new(out, usize::from(accepted.length))
+        }
+        Err(_) => Message::nothing(),
+    }
 }

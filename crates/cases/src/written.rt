@@ -36,9 +36,9 @@ impl Message {
             position: 0,
         };
         let mut bytes = [0; LONGEST];
-        if writing::write(Edition::TwoZero, head, objects, &mut bytes) != 0 {
-            return Message::nothing();
+        match writing::write(Edition::TwoZero, head, objects, &mut bytes) {
+            Ok(()) => Message::new(bytes, OBJECT + objects.len() * OBJECT),
+            Err(_) => Message::nothing(),
         }
-        Message::new(bytes, OBJECT + objects.len() * OBJECT)
     }
 }

@@ -1,6 +1,6 @@
 // The turns of the laptop end's owner, all on the partner's side: it asks what it needs next, and hears an answer.
 use crate::written::{LONGEST, Message};
-use driving::owning::Owner;
+use driving::owning::{Owner, outcome_of};
 use events::Call;
 use laptop::Laptop;
 use messages::Refusal;
@@ -33,9 +33,8 @@ pub fn next(owner: &mut Owner) -> Turn {
 }
 
 pub fn hear(owner: &mut Owner, message: Message) -> Turn {
-    let stepped = owner.hear(Side::Partner, message.bytes());
     Turn {
-        outcome: stepped.map(|_| ()).map_err(|refused| refused.refusal),
+        outcome: outcome_of(owner.hear(Side::Partner, message.bytes())),
         request: Message::nothing(),
     }
 }

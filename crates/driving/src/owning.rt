@@ -118,6 +118,19 @@ pub struct Owner {
     cable: Memory,
 }
 
+// Without what it handed over.
+pub fn outcome_of(stepped: Result<Accepted, Refused>) -> Result<(), Refusal> {
+    match stepped {
+        Ok(_) => Ok(()),
+        Err(refused) => Err(refused.refusal),
+    }
+}
+
+// Whether the bytes in the output buffer are to be sent.
+pub fn sends(stepped: Result<Accepted, Refused>) -> bool {
+    stepped.is_ok_and(|accepted| accepted.length != 0)
+}
+
 fn port_after(stepped: Result<Accepted, Refused>) -> Port {
     match stepped {
         Ok(accepted) => accepted.port,

@@ -1,7 +1,7 @@
 // What an event leads to.
 use crate::event::{CATALOGUE_ROOM, Event, Lengths};
 use driving::digest::of_bytes;
-use driving::owning::Owner;
+use driving::owning::{Owner, sends};
 use events::Call;
 use laptop::Told;
 use messages::Refusal;
@@ -120,7 +120,7 @@ impl State {
         let output = &mut buffer[..usize::from(self.output_for(side))];
         let stepped = self.owner.make(side, call, output);
         Answer {
-            sent: request_in(output).filter(|_| stepped.is_ok_and(|accepted| accepted.length != 0)),
+            sent: request_in(output).filter(|_| sends(stepped)),
             output: may_send(call).then(|| of_bytes(output)),
             ..Answer::stepped(stepped)
         }

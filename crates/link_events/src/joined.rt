@@ -1,6 +1,6 @@
 // The laptop end's owner and the far end of a side's link, joined. An event that is not permitted changes nothing.
 use crate::event::Event;
-use driving::owning::Owner;
+use driving::owning::{Owner, outcome_of, sends};
 use events::Call;
 use laptop::{Candidate, Laptop};
 use linking::far_end::FarEnd;
@@ -69,7 +69,7 @@ impl<'a> Joined<'a> {
     fn make(&mut self, call: Call) {
         let mut request = [0; REQUEST];
         let stepped = self.owner.make(self.side, call, &mut request);
-        if stepped.is_ok_and(|accepted| accepted.length != 0) {
+        if sends(stepped) {
             self.far_end.link.request = Some(request);
         }
         self.step(stepped);
@@ -94,7 +94,7 @@ impl<'a> Joined<'a> {
 
     // What a call of the laptop led to. A request not yet at the dock when its wait ends is lost.
     fn step(&mut self, stepped: Result<Accepted, Refused>) {
-        self.far_end.outcome = Some(stepped.map(|_| ()).map_err(|refused| refused.refusal));
+        self.far_end.outcome = Some(outcome_of(stepped));
         if self.owner.laptop(self.side).wait.is_none() {
             self.far_end.link.request = None;
         }

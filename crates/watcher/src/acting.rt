@@ -1,7 +1,7 @@
 // What an event makes the laptop end do, and the line that it gets.
 use crate::BLOCK;
 use driving::fields::{add_held, add_outcome};
-use driving::owning::Owner;
+use driving::owning::{Owner, outcome_of, sends};
 use events::Event;
 use messages::Refusal;
 use port::Side;
@@ -23,10 +23,7 @@ pub fn act(owner: &mut Owner, event: Event, body: &[u8]) -> Answer {
     match event {
         Event::Message(side, _) => Answer {
             side,
-            outcome: owner
-                .hear(side, body)
-                .map(|_| ())
-                .map_err(|refused| refused.refusal),
+            outcome: outcome_of(owner.hear(side, body)),
             sent: None,
         },
         Event::Call(side, call) => {
@@ -34,10 +31,8 @@ pub fn act(owner: &mut Owner, event: Event, body: &[u8]) -> Answer {
             let stepped = owner.make(side, call, &mut request);
             Answer {
                 side,
-                outcome: stepped.map(|_| ()).map_err(|refused| refused.refusal),
-                sent: stepped
-                    .is_ok_and(|accepted| accepted.length != 0)
-                    .then_some(u32::from_le_bytes(request)),
+                outcome: outcome_of(stepped),
+                sent: sends(stepped).then_some(u32::from_le_bytes(request)),
             }
         }
     }

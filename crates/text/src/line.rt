@@ -1,24 +1,47 @@
 // One line of output, built in fixed memory, so that one call writes it. A method adds its text behind what stands there; what finds no room is left
 // out.
-ghost use Rattle.std.specs.Prelude.{◌≤◌};
+ghost use Rattle.std.specs.Prelude.{◌≡◌, ℕ, ◌+◌, ◌<◌, ◌≤◌, List, [], ◌∷◌, ◌++◌, length, take, true};
+ghost use Rattle.std.specs.Fmt.{decimal, digit_glyph};
+ghost use Rattle.std.specs.Int.{to_be_bytes, w16};
+ghost use Rattle.text.specs.Text.{with_text, spaced, edition_text, hex_bytes, hex_word, hex_words};
 
 use std::fmt;
+use std::marker::Model;
 
 // The number of standard output among the open files.
 const STDOUT: i32 = 1;
 
 // The library's `io::hex` has lower case digits.
-const HEX_DIGITS: [u8; 16] = *b"0123456789ABCDEF";
+fn digit(value: u8) -> u8
+    requires { value < 16 }
+    ensures { result ≡ digit_glyph true value }
+{
+    if value < 10 {
+        b'0' + value
+    } else {
+        b'A' + (value - 10)
+    }
+}
 
 #[derive(Drop)]
 pub struct Line<const N: usize> {
     bytes: [u8; N],
     end: usize,
-    ghost within: { end ≤ N },
+}
+
+// Clauses see what the line says so far.
+impl<const N: usize> Model for Line<N> {
+    ghost Value = { List ℕ };
+
+    ghost view = { λ line. take line.end line.bytes };
+
+    ghost invariant = { λ line. line.end ≤ N };
 }
 
 impl<const N: usize> Line<N> {
-    pub fn new() -> Self {
+    pub fn new() -> Self
+        ensures { result ≡ [] }
+    {
         Line {
             bytes: [0; N],
             end: 0,
@@ -26,7 +49,9 @@ impl<const N: usize> Line<N> {
     }
 
     // What the line says so far.
-    pub fn said(&self) -> &[u8] {
+    pub fn said(&self) -> &[u8]
+        ensures { result.now ≡ self.now }
+    {
         &self.bytes[..self.end]
     }
 
@@ -36,34 +61,45 @@ impl<const N: usize> Line<N> {
     }
 
     // Ends the line and writes it.
-    pub fn print_line(&mut self) {
+    pub fn print_line(&mut self)
+        ensures { self.new ≡ with_text N self.old (10 ∷ []) }
+    {
         self.byte(b'\n');
         self.print();
     }
 
     // Writes the text and begins anew where there is less room than wanted.
-    pub fn make_room(&mut self, wanted: usize) {
+    pub fn make_room(&mut self, wanted: usize)
+        ensures kept { length self.old + wanted ≤ N → self.new ≡ self.old }
+        ensures begun { N < length self.old + wanted → self.new ≡ [] }
+    {
         if N - self.end < wanted {
             self.print();
             self.end = 0;
         }
     }
 
-    pub fn byte(&mut self, byte: u8) {
+    pub fn byte(&mut self, byte: u8)
+        ensures { self.new ≡ with_text N self.old (byte ∷ []) }
+    {
         if self.end < N {
             self.bytes[self.end] = byte;
             self.end += 1;
         }
     }
 
-    pub fn text(&mut self, text: &[u8]) {
+    pub fn text(&mut self, text: &[u8])
+        ensures { self.new ≡ with_text N self.old text.now }
+    {
         for byte in text {
             self.byte(*byte);
         }
     }
 
     // The library's `io::decimal` divides by a base that it is given; a division by a constant is a multiplication.
-    pub fn decimal(&mut self, number: u64) {
+    pub fn decimal(&mut self, number: u64)
+        ensures { self.new ≡ with_text N self.old (decimal number) }
+    {
         if 10 <= number {
             self.decimal(number / 10);
         }
@@ -71,61 +107,80 @@ impl<const N: usize> Line<N> {
     }
 
     // The number has a space before it.
-    pub fn field<T: Into<u64>>(&mut self, number: T) {
+    pub fn field<T: Into<u64>>(&mut self, number: T)
+        ensures { (n : ℕ) × T.converts number n × (self.new ≡ with_text N self.old (spaced (decimal n))) }
+    {
         self.byte(b' ');
         self.decimal(number.into());
     }
 
     // An edition by its number, with a space before it: 21 stands as 2.1.
-    pub fn edition(&mut self, number: u8) {
+    pub fn edition(&mut self, number: u8)
+        ensures { self.new ≡ with_text N self.old (spaced (edition_text number)) }
+    {
         self.field(number / 10);
         self.byte(b'.');
         self.decimal(u64::from(number % 10));
     }
 
     // Each byte stands as its two digits, with nothing between them.
-    pub fn bytes(&mut self, bytes: &[u8]) {
+    pub fn bytes(&mut self, bytes: &[u8])
+        ensures { self.new ≡ with_text N self.old (hex_bytes bytes.now) }
+    {
         for byte in bytes {
-            self.byte(HEX_DIGITS[usize::from(byte / 16)]);
-            self.byte(HEX_DIGITS[usize::from(byte % 16)]);
+            self.text(&[digit(byte / 16), digit(byte % 16)]);
         }
     }
 
-    pub fn half(&mut self, half: u16) {
+    pub fn half(&mut self, half: u16)
+        ensures { self.new ≡ with_text N self.old (hex_bytes (to_be_bytes w16 half)) }
+    {
         self.bytes(&half.to_be_bytes());
     }
 
-    pub fn word(&mut self, word: u32) {
+    pub fn word(&mut self, word: u32)
+        ensures { self.new ≡ with_text N self.old (hex_word word) }
+    {
         self.bytes(&word.to_be_bytes());
     }
 
     // The bytes have a space before them.
-    pub fn spaced_bytes(&mut self, bytes: &[u8]) {
+    pub fn spaced_bytes(&mut self, bytes: &[u8])
+        ensures { self.new ≡ with_text N self.old (spaced (hex_bytes bytes.now)) }
+    {
         self.byte(b' ');
         self.bytes(bytes);
     }
 
     // The word has a space before it.
-    pub fn spaced_word(&mut self, word: u32) {
+    pub fn spaced_word(&mut self, word: u32)
+        ensures { self.new ≡ with_text N self.old (spaced (hex_word word)) }
+    {
         self.byte(b' ');
         self.word(word);
     }
 
     // Each word has a space before it.
-    pub fn words(&mut self, words: &[u32]) {
+    pub fn words(&mut self, words: &[u32])
+        ensures { self.new ≡ with_text N self.old (hex_words words.now) }
+    {
         for word in words {
             self.spaced_word(*word);
         }
     }
 
     // What a line has where there is nothing to tell.
-    pub fn nothing(&mut self) {
+    pub fn nothing(&mut self)
+        ensures { self.new ≡ with_text N self.old (spaced (45 ∷ [])) }
+    {
         self.text(b" -");
     }
 }
 
 // What `write!` writes goes behind the text, and is an error where it finds no room.
 impl<const N: usize> fmt::Write for Line<N> {
+    ghost write_str_gives = { λ line text after. after ≡ line ++ text };
+
     fn write_str(&mut self, s: &str) -> fmt::Result {
         if N - self.end < s.len() {
             return Err(fmt::Error);

@@ -29,12 +29,12 @@ returns-in_err-fitting c =
     let holds = held_holding args.laptop.held args.held_identity.now args.held_svids.now args.held_modes.now args.held_run.now
     _ is c.first.result.now c.first-2.result.now (search rules) (search rules) in
     let held = catalogue_of c.first.result.now c.first-2.result.now args.held_modes.now args.held_run.now in
-    let e : c.from_residual.result ≡ Err refusal = grind (arith, common_steps) in
+    let e : c.from_residual-in_err-fitting.result ≡ Err refusal = grind (arith, common_steps) in
     rw e (write_refused _ _ args.out.now held c.if-held_run-lt-RUN_WORDS.false holds _ c.length-length.ensures.0 _
     c.in_err-fitting.ensures (λ z. omega (arith, number_above refusal, z)) _ refl)
 
 pub put-requires : goal.put-requires
-put-requires c = 
+put-requires c =
     let fits = (size_taken _ _ _ (sym c.in_ok-fitting.ensures)).1 in
     omega (arith, fits, c.length-length.ensures.0)
 

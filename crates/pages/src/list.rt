@@ -6,27 +6,16 @@ ghost use Rattle.pages.specs.Lists.{is_in, sound_list};
 pub fn is_in(svid: u16, list: &[u16]) -> bool
     ensures { result ≡ is_in svid list.now }
 {
-    let mut found = false;
-    let mut i = 0;
-    while i < list.len() {
-        found = found | (list[i] == svid);
-        i += 1;
-    }
-    found
+    list.iter().fold(false, |found, x| found | (*x == svid))
 }
 
 // None 0, all different.
+#[tactic(auto, using(crate::proofs::Scanning::sound_steps))]
 pub fn sound(list: &[u16]) -> bool
     ensures { result ≡ sound_list list.now }
 {
-    let mut i = 0;
-    while i < list.len() {
-        let svid = list[i];
-        if svid == 0 {
-            return false;
-        }
-        i += 1;
-        if is_in(svid, &list[i..]) {
+    for (i, svid) in list.iter().enumerate() {
+        if *svid == 0 || is_in(*svid, &list[i + 1..]) {
             return false;
         }
     }
@@ -37,8 +26,5 @@ pub fn sound(list: &[u16]) -> bool
 pub fn first_svids(list: &[u16], n: usize) -> &[u16]
     ensures { result.now ≡ take n list.now }
 {
-    if n <= list.len() {
-        return &list[0..n];
-    }
-    list
+    messages::first(list, n)
 }

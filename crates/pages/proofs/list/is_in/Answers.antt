@@ -1,22 +1,17 @@
--- `is_in` meets its promise. The loop's invariant: the list has the SVID exactly if it was found or what is left has it.
-use mathlib.Core.Path.{refl, sym, ◌∙◌}
-use native.Mathlib.Omega.{arith}
-use Rattle.pages.proofs.Scanning.{in_next, in_end}
+-- `is_in` meets its promise: the fold over the list.
+use mathlib.Core.Path.{◌∙◌}
+use mathlib.Core.Bool.{Bool, false, ◌||◌}
+use Prim.Native.Nat.{ℕ}
+use Rattle.std.specs.Prelude.{◌==◌}
+use Rattle.std.proofs.Common.{rules}
+use borrow.Author.Tests.{tests}
+use Rattle.std.proofs.lemmas.Iterator.{YieldsList-from_slice}
+use Rattle.std.proofs.lemmas.Iterator.Consumers.{fold_from_yields_List}
+use Rattle.pages.proofs.Scanning.{in_fold}
 use Rattle.pages.proofs.list.is_in.Goals as goal
 
-pub loop-i-init : goal.loop-i-init
-loop-i-init c = (omega arith, refl)
-
-pub bounds-list-i : goal.bounds-list-i
-bounds-list-i c = omega arith
-
-pub loop-i-smaller : goal.loop-i-smaller
-loop-i-smaller c = omega arith
-
-pub loop-i-preserved : goal.loop-i-preserved
-loop-i-preserved c = let list = c.args.list.now in
-    (omega arith, c.loop-i.invariant.1 ∙ in_next list c.loop-i.i c.loop-i-test.true c.loop-i.found c.args.svid)
-
 pub returns : goal.returns
-returns c = let list = c.args.list.now in
-    sym (c.loop-i.invariant.1 ∙ in_end c.loop-i.found c.args.svid list c.loop-i.i c.loop-i-test.false)
+returns c =
+    fold_from_yields_List _ (λ (found : Bool) (x : ℕ). found || (x == c.args.svid)) false _ c.fold.ensures.ran
+    (YieldsList-from_slice c.args.list.now cc) (λ a x b q k. search (rules, tests)) ∙
+    in_fold false c.args.svid c.args.list.now

@@ -16,16 +16,21 @@ pub fn exports_read(bytes: &[u8], into: &mut [u32; 12]) -> u8
     match read(bytes) {
         Ok(received) => {
             let head = received.head;
-            let said = [
+            let objects = received.objects;
+            *into = [
                 u32::from(u8::from(received.edition)),
                 u32::from(head.svid),
                 u32::from(head.command),
                 u32::from(head.kind),
                 u32::from(head.position),
                 u32::from(received.count),
+                objects[0],
+                objects[1],
+                objects[2],
+                objects[3],
+                objects[4],
+                objects[5],
             ];
-            into[..6].copy_from_slice(&said);
-            into[6..].copy_from_slice(&received.objects);
             0
         }
         Err(refusal) => u8::from(refusal),

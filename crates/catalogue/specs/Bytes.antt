@@ -1,11 +1,9 @@
 -- A catalogue's bytes, and the writing of the held one (01, "Catalogue bytes" and "Refusal numbers").
-use Rattle.std.specs.Prelude.{◌≡◌, ℕ, ◌^◌, ◌<◌, ◌≤◌, cond, List, [], ◌∷◌, ◌++◌, ltb, eqb, length, drop}
+use Rattle.std.specs.Prelude.{◌≡◌, ℕ, ◌^◌, ◌<◌, ◌≤◌, cond, List, [], ◌∷◌, ◌++◌, ltb, eqb, length, drop, Option, Some, None}
 use Rattle.laws.specs.Bounded.{Below}
 use Rattle.messages.specs.Layout.{bits, bytes_of_object, bytes_of}
 use Rattle.laptop.specs.Catalogue.{Entry, Catalogue, modes_each, run_words, entries_from, catalogue_in}
-use Rattle.laptop.specs.declared.Held.{Held}
-use Rattle.laptop.specs.declared.Held.TheVariants.{Catalogue as HeldAsCatalogue}
-use Rattle.laptop.specs.declared.Held.TheVariants.{Nothing as HeldNothing}
+use Rattle.laptop.specs.declared.Size.{Size}
 use Rattle.catalogue.specs.declared.Bytes.{Bytes}
 
 -- the kinds; the identity's is the number of its objects
@@ -74,9 +72,9 @@ pub data HeldCatalogue : Type 0 where
   nothing : HeldCatalogue
   holding : Catalogue → HeldCatalogue
 
-abbrev pub held_catalogue : Held → List ℕ → List ℕ → List ℕ → List ℕ → HeldCatalogue
-held_catalogue HeldNothing identity svids modes run = nothing
-held_catalogue (HeldAsCatalogue size) identity svids modes run = holding (catalogue_in size identity svids modes run)
+abbrev pub held_catalogue : Option Size → List ℕ → List ℕ → List ℕ → List ℕ → HeldCatalogue
+held_catalogue None identity svids modes run = nothing
+held_catalogue (Some size) identity svids modes run = holding (catalogue_in size identity svids modes run)
 
 -- 11 for a run of too few words comes first, then 12, and 11 for a buffer without the room comes last; fewer than three identity objects
 -- are no catalogue, and their number would be no kind of an identity

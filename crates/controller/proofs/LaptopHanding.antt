@@ -10,7 +10,7 @@ use Rattle.laptop.specs.Calls.{Decision}
 use Rattle.laptop.specs.Marks.{reported}
 use Rattle.laptop.specs.State.{Memory, LentMemory}
 use Rattle.laptop.specs.declared.Laptop.{Laptop}
-use Rattle.laptop.specs.declared.Step.{Step as LaptopAsStep}
+use Rattle.laptop.specs.Step.{Step as LaptopAsStep}
 use Rattle.hearing.specs.Hearing.{heard}
 use Rattle.catalogue.specs.Bytes.{HeldCatalogue, held_catalogue, CatalogueWritten}
 use Rattle.catalogue.specs.declared.Bytes.{Bytes}

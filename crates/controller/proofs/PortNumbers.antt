@@ -18,9 +18,7 @@ use Rattle.taking.specs.Taking.{same_list}
 use Rattle.taking.proofs.Gathering.{same_self, same_lists}
 use Rattle.laptop.specs.declared.Candidate.{Candidate}
 use Rattle.laptop.specs.declared.Candidate.TheVariants.{Absent, Open, Done}
-use Rattle.laptop.specs.declared.Held.{Held}
-use Rattle.laptop.specs.declared.Held.TheVariants.{Catalogue}
-use Rattle.laptop.specs.declared.Held.TheVariants.{Nothing as HeldNothing}
+use Rattle.std.specs.Prelude.{Option, Some, None}
 use Rattle.laptop.specs.declared.Size.{Size}
 use Rattle.port.specs.declared.Own.{Own}
 use Rattle.port.specs.declared.Port.{Port}
@@ -43,7 +41,7 @@ pub wait_in_lem : (s : List ℕ) (request : Request) {wait : Wait} → wait ≡ 
 unfolding wait_in
 wait_in_lem s request e f = rw (e, f)
 
-pub own_is : (s : List ℕ) (at : ℕ) {size gathered : Size} {candidate : Candidate} {stored pages : ℕ} {held : Held} {edition : Edition} →
+pub own_is : (s : List ℕ) (at : ℕ) {size gathered : Size} {candidate : Candidate} {stored pages : ℕ} {held : Option Size} {edition : Edition} →
     candidate ≡ candidate_from (get_or s at 0) → gathered ≡ size_from (get_or s (at + 1) 0) (get_or s (at + 2) 0) → stored ≡ low_byte (get_or s (at + 3) 0) →
     pages ≡ low_byte (get_or s (at + 4) 0) → held ≡ held_from (get_or s (at + 5) 0) size → size ≡ size_from (get_or s (at + 6) 0) (get_or s (at + 7) 0) →
     edition ≡ edition_from (get_or s (at + 8) 0) →
@@ -66,18 +64,18 @@ wait_four : (w : Wait) →
 wait_four Nothing = refl
 wait_four (Answer side r) = refl
 
-held_three : (h : Held) (n : ℕ) →
+held_three : (h : Option Size) (n : ℕ) →
     (get_or (held_numbers h) 0 0 ∷ get_or (held_numbers h) 1 0 ∷ get_or (held_numbers h) 2 0 ∷ n ∷ []) ≡ held_numbers h ++ (n ∷ [])
-held_three HeldNothing n = refl
-held_three (Catalogue size) n = refl
+held_three None n = refl
+held_three (Some size) n = refl
 
 pub wait_length : (w : Wait) → length (wait_numbers w) ≡ 4
 wait_length Nothing = refl
 wait_length (Answer side r) = refl
 
-pub held_length : (h : Held) → length (held_numbers h) ≡ 3
-held_length HeldNothing = refl
-held_length (Catalogue size) = refl
+pub held_length : (h : Option Size) → length (held_numbers h) ≡ 3
+held_length None = refl
+held_length (Some size) = refl
 
 pub own_length : (own : Own) → length (own_numbers own) ≡ 9
 unfolding own_numbers
@@ -122,9 +120,9 @@ abbrev pub WaitFits : Wait → Type 0
 WaitFits Nothing = Unit
 WaitFits (Answer side r) = (r.command < 256) × (r.position < 256)
 
-abbrev pub HeldFits : Held → Type 0
-HeldFits HeldNothing = Unit
-HeldFits (Catalogue size) = SizeFits size
+abbrev pub HeldFits : Option Size → Type 0
+HeldFits None = Unit
+HeldFits (Some size) = SizeFits size
 
 pub record OwnFits (own : Own) : Type 0 where
   pub gathered_fits : SizeFits own.gathered
@@ -175,15 +173,15 @@ unfolding own_from
 own_behind before l at e =
     rw (first_behind before l at e, number_behind before l at 1 e, number_behind before l at 2 e, number_behind before l at 3 e, number_behind before l at 4 e, number_behind before l at 5 e, number_behind before l at 6 e, number_behind before l at 7 e, number_behind before l at 8 e)
 
-held_front : (held : Held) (n : ℕ) (rest : List ℕ) → HeldFits held →
+held_front : (held : Option Size) (n : ℕ) (rest : List ℕ) → HeldFits held →
     held_from (get_or ((held_numbers held ++ (n ∷ [])) ++ rest) 0 0)
     (size_from (get_or ((held_numbers held ++ (n ∷ [])) ++ rest) 1 0) (get_or ((held_numbers held ++ (n ∷ [])) ++ rest) 2 0)) ≡ held
-held_front HeldNothing n rest h = refl
-held_front (Catalogue size) n rest h = rw (byte_again size.extent h.0, byte_again size.count h.1)
+held_front None n rest h = refl
+held_front (Some size) n rest h = rw (byte_again size.extent h.0, byte_again size.count h.1)
 
-behind_held : (held : Held) (n : ℕ) (rest : List ℕ) → get_or ((held_numbers held ++ (n ∷ [])) ++ rest) 3 0 ≡ n
-behind_held HeldNothing n rest = refl
-behind_held (Catalogue size) n rest = refl
+behind_held : (held : Option Size) (n : ℕ) (rest : List ℕ) → get_or ((held_numbers held ++ (n ∷ [])) ++ rest) 3 0 ≡ n
+behind_held None n rest = refl
+behind_held (Some size) n rest = refl
 
 own_front : (own : Own) (rest : List ℕ) → OwnFits own → own_from (own_numbers own ++ rest) 0 ≡ own
 unfolding own_from own_numbers
@@ -226,7 +224,7 @@ wait_in_fits : (s : List ℕ) → WaitFits (wait_in s)
 unfolding wait_in
 wait_in_fits s = wait_from_fits (eqb (get_or s 0 0) 1) (eqb (get_or s 0 0) 2) (get_or s 1 0) (get_or s 2 0) (get_or s 3 0)
 
-held_from_fits : (t : Bool) (extent count : ℕ) → HeldFits (cond t (Catalogue (size_from extent count)) HeldNothing)
+held_from_fits : (t : Bool) (extent count : ℕ) → HeldFits (cond t (Some (size_from extent count)) None)
 held_from_fits true extent count = (low_fits extent, low_fits count)
 held_from_fits false extent count = tt
 

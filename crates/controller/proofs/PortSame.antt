@@ -14,9 +14,7 @@ use Rattle.messages.specs.declared.edition.Edition.TheVariants.{OneZero, TwoZero
 use Rattle.messages.specs.Requests.{same_request}
 use Rattle.messages.specs.declared.request.Request.{Request}
 use Rattle.taking.specs.Taking.{same_list}
-use Rattle.laptop.specs.declared.Held.{Held}
-use Rattle.laptop.specs.declared.Held.TheVariants.{Catalogue}
-use Rattle.laptop.specs.declared.Held.TheVariants.{Nothing as HeldNothing}
+use Rattle.std.specs.Prelude.{Option, Some, None}
 use Rattle.laptop.specs.declared.Size.{Size}
 use Rattle.port.specs.declared.Own.{Own}
 use Rattle.port.specs.declared.Port.{Port}
@@ -92,20 +90,20 @@ module _ (v w : Wait) where
     both_await h = rw (first, second, ← first_side, ← second_side, eq-eqb (x + 1) (y + 1) (omega arith), and-true (eqb r.position s.position))
 
 -- two that are held, or nothing
-module _ (g h : Held) where
-  pub neither_holds : g ≡ HeldNothing → h ≡ HeldNothing → true ≡ same_list (held_numbers g) (held_numbers h)
+module _ (g h : Option Size) where
+  pub neither_holds : g ≡ None → h ≡ None → true ≡ same_list (held_numbers g) (held_numbers h)
   unfolding same_list
   neither_holds e f = rw (e, f)
 
-  pub second_holds : {size : Size} → g ≡ HeldNothing → h ≡ Catalogue size → false ≡ same_list (held_numbers g) (held_numbers h)
+  pub second_holds : {size : Size} → g ≡ None → h ≡ Some size → false ≡ same_list (held_numbers g) (held_numbers h)
   unfolding same_list
   second_holds e f = rw (e, f)
 
-  pub first_holds : {size : Size} → g ≡ Catalogue size → h ≡ HeldNothing → false ≡ same_list (held_numbers g) (held_numbers h)
+  pub first_holds : {size : Size} → g ≡ Some size → h ≡ None → false ≡ same_list (held_numbers g) (held_numbers h)
   unfolding same_list
   first_holds e f = rw (e, f)
 
-  pub both_hold : {a b : Size} → g ≡ Catalogue a → h ≡ Catalogue b →
+  pub both_hold : {a b : Size} → g ≡ Some a → h ≡ Some b →
       (eqb a.extent b.extent && eqb a.count b.count) ≡ same_list (held_numbers g) (held_numbers h)
   unfolding same_list
   both_hold {a} {b} e f = rw (e, f, and-true (eqb a.count b.count))

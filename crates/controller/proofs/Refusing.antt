@@ -11,7 +11,7 @@ use Rattle.dock.proofs.Laws.{refusal_leaves}
 use Rattle.laptop.specs.Calls.{Decision, step_of, unless, short_runs}
 use Rattle.laptop.specs.State.{Memory, LentMemory, memory}
 use Rattle.laptop.specs.declared.Laptop.{Laptop}
-use Rattle.laptop.specs.declared.Step.{Step as LaptopAsStep}
+use Rattle.laptop.specs.Step.{Step as LaptopAsStep}
 use Rattle.laptop_laws.specs.Effects.{Call, message}
 use Rattle.laptop_laws.specs.Refusing.{left_by, RefusedAs}
 use Rattle.laptop_laws.proofs.Leaves.{buffer_left}

@@ -1,6 +1,6 @@
 -- The laptop end's state as 22 numbers, and back. Any numbers are taken: of one that is to be a byte the low eight bits count, and one that says what
 -- is awaited, gathered or held, or an edition, and is none of those below counts as nothing awaited, no candidate, nothing held, 2.1.
-use Rattle.std.specs.Prelude.{ℕ, ◌+◌, ◌%◌, cond, List, [], ◌∷◌, ◌++◌, eqb, get_or}
+use Rattle.std.specs.Prelude.{ℕ, ◌+◌, ◌%◌, cond, List, [], ◌∷◌, ◌++◌, eqb, get_or, Option, Some, None}
 use Rattle.messages.specs.Editions.{edition_number}
 use Rattle.messages.specs.declared.edition.Edition.{Edition}
 use Rattle.messages.specs.declared.edition.Edition.TheVariants.{OneZero, TwoZero, TwoOne}
@@ -8,9 +8,6 @@ use Rattle.messages.specs.declared.request.Request.{Request}
 use Rattle.taking.specs.Taking.{same_list}
 use Rattle.laptop.specs.declared.Candidate.{Candidate}
 use Rattle.laptop.specs.declared.Candidate.TheVariants.{Absent, Open, Done}
-use Rattle.laptop.specs.declared.Held.{Held}
-use Rattle.laptop.specs.declared.Held.TheVariants.{Catalogue}
-use Rattle.laptop.specs.declared.Held.TheVariants.{Nothing as HeldNothing}
 use Rattle.laptop.specs.declared.Size.{Size}
 use Rattle.port.specs.declared.Own.{Own}
 use Rattle.port.specs.declared.Port.{Port}
@@ -46,8 +43,8 @@ abbrev pub candidate_from : ℕ → Candidate
 candidate_from tag = cond (eqb tag 1) Open (cond (eqb tag 2) Done Absent)
 
 -- 1 a catalogue, any other nothing
-abbrev pub held_from : ℕ → Size → Held
-held_from tag size = cond (eqb tag 1) (Catalogue size) HeldNothing
+abbrev pub held_from : ℕ → Size → Option Size
+held_from tag size = cond (eqb tag 1) (Some size) None
 
 -- what is awaited, in the first four
 unfoldable pub wait_in : List ℕ → Wait
@@ -82,9 +79,9 @@ candidate_number Absent = 0
 candidate_number Open = 1
 candidate_number Done = 2
 
-abbrev pub held_numbers : Held → List ℕ
-held_numbers HeldNothing = 0 ∷ 0 ∷ 0 ∷ []
-held_numbers (Catalogue size) = 1 ∷ size.extent ∷ size.count ∷ []
+abbrev pub held_numbers : Option Size → List ℕ
+held_numbers None = 0 ∷ 0 ∷ 0 ∷ []
+held_numbers (Some size) = 1 ∷ size.extent ∷ size.count ∷ []
 
 unfoldable pub own_numbers : Own → List ℕ
 own_numbers own =

@@ -39,7 +39,7 @@ use Rattle.laptop.specs.State.{Memory, fresh_laptop, identity_request}
 use Rattle.owner.specs.Owner.{any_entered}
 use Rattle.laptop.specs.declared.Candidate.TheVariants.{Absent}
 use Rattle.laptop.specs.declared.Laptop.{Laptop}
-use Rattle.laptop.specs.declared.Wait.TheVariants.{Nothing, Answer}
+use Rattle.std.specs.Prelude.{Some, None}
 use Rattle.laptop_laws.specs.Effects.{Call, effect_of, Kept, kept_after}
 use Rattle.laptop_laws.specs.Editions.{identity_out, acknowledged, edition_by, request_edition, SentAt, NoIdentityOut, NoneAcknowledged}
 use Rattle.laptop_laws.specs.Given.{ShortRun, AnyEntered, Given}
@@ -520,7 +520,7 @@ every_edition_case = editions_hold
 
 -- DEMAND 3, for a dock of any highest edition (`highest` of `System`). It begins when, of a laptop and a dock at rest, a call sends Discover Identity.
 pub begins : (modes_of : ℕ → List ℕ) (s : System) → AtRest s → (out : List ℕ) (c : Call) →
-    (step modes_of (calls c out) s).laptop.wait ≡ Answer identity_request → Begins (step modes_of (calls c out) s)
+    (step modes_of (calls c out) s).laptop.wait ≡ Some identity_request → Begins (step modes_of (calls c out) s)
 begins = begins_with
 
 -- Every call keeps a laptop well-formed, so a laptop that was fresh once, beside a dock that is ready, is at rest whenever it awaits nothing, whatever it
@@ -530,7 +530,7 @@ pub well_formed_after_every_call : (c : Call) (l : Laptop) (m : Memory) (out : L
 well_formed_after_every_call = keeps
 
 pub at_rest_after_any_calls : (history : List (Call × List ℕ)) (m : Memory) (highest : Edition) (d : Dock) → Lent m → m.entered ≡ replicate 72 0 → d.standing ≡ Ready →
-    (kept_after history (record { laptop = fresh_laptop; memory = m })).laptop.wait ≡ Nothing →
+    (kept_after history (record { laptop = fresh_laptop; memory = m })).laptop.wait ≡ None →
     AtRest (apart (kept_after history (record { laptop = fresh_laptop; memory = m })) highest d)
 at_rest_after_any_calls = rests_after
 
@@ -605,7 +605,7 @@ module _ (modes_of : ℕ → List ℕ) (start : System) (meets : Meets modes_of 
   ends_unfinished_only_by = ends_only_by modes_of start meets begun events
 
   -- Whatever has been lost: where nothing is awaited and no mode is entered, next asks for an answer that is needed.
-  pub next_asks_for_what_is_needed : (out : List ℕ) → 28 ≤ length out → there.laptop.wait ≡ Nothing → any_entered there.memory.entered ≡ false →
+  pub next_asks_for_what_is_needed : (out : List ℕ) → 28 ≤ length out → there.laptop.wait ≡ None → any_entered there.memory.entered ≡ false →
       NextAsks modes_of start.dock there came out
   next_asks_for_what_is_needed = asks_for_what_is_needed modes_of start meets begun events
 
@@ -643,7 +643,7 @@ arrival_is_the_ports = arrival_is_a_message
 
 -- It begins when, of a side and its dock at rest, a call for the side sends Discover Identity.
 pub begins_on_a_side : (modes_of : Side → ℕ → List ℕ) (side : Side) (j : Joint) → AtRest (system_seen side j) → (out : List ℕ) (c : PortCall) →
-    is_away side (joint_calls c out) j ≡ false → (seen side (joint_step modes_of (joint_calls c out) j).port).wait ≡ Answer identity_request →
+    is_away side (joint_calls c out) j ≡ false → (seen side (joint_step modes_of (joint_calls c out) j).port).wait ≡ Some identity_request →
     Begins (system_seen side (joint_step modes_of (joint_calls c out) j))
 begins_on_a_side = begins_on
 
@@ -693,7 +693,7 @@ module _ (modes_of : Side → ℕ → List ℕ) (side : Side) (start : Joint) (m
   pub each_side_ends_unfinished_only_by : (e : Event) → EndsBy (modes_of side) (far_end side start).dock e there_on came_on
   each_side_ends_unfinished_only_by = ends_on modes_of side start meets begun events
 
-  pub each_side_asks_for_what_is_needed : (out : List ℕ) → 28 ≤ length out → there_on.laptop.wait ≡ Nothing → any_entered there_on.memory.entered ≡ false →
+  pub each_side_asks_for_what_is_needed : (out : List ℕ) → 28 ≤ length out → there_on.laptop.wait ≡ None → any_entered there_on.memory.entered ≡ false →
       NextAsks (modes_of side) (far_end side start).dock there_on came_on out
   each_side_asks_for_what_is_needed = asks_on modes_of side start meets begun events
 

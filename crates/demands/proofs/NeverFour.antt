@@ -30,7 +30,7 @@ use Rattle.laptop_laws.proofs.MessageGiven.{identity_number, mode_number}
 use Rattle.laptop.specs.Calls.{sends, step_of, short_runs, is_awaiting}
 use Rattle.laptop.specs.State.{awaiting, counted}
 use Rattle.laptop.specs.declared.Laptop.{Laptop}
-use Rattle.laptop.specs.declared.Step.{Step}
+use Rattle.laptop.specs.Step.{Step}
 use Rattle.owner.specs.Owner.{owner_refusal, request_message}
 use Rattle.gathering.specs.Gathering.{Gathering, most_pages, unless_last, take_as, take_page, none_gathered, hear_svids}
 use Rattle.answers.specs.Answers.{Storing, store_modes, hear_modes}

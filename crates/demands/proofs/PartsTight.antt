@@ -27,7 +27,7 @@ use Rattle.laptop.specs.Catalogue.{modes_number}
 use Rattle.laptop.specs.Marks.{place_of, named, six_bits}
 use Rattle.laptop.specs.State.{ended, dropped}
 use Rattle.laptop.specs.declared.Laptop.{Laptop}
-use Rattle.laptop.specs.declared.Step.{Step}
+use Rattle.laptop.specs.Step.{Step}
 use Rattle.laptop.specs.declared.Told.{Told}
 use Rattle.laptop_laws.proofs.Laws.{step_only}
 use Rattle.owner.specs.Owner.{owner_refusal, asks}

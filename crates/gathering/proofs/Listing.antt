@@ -15,7 +15,7 @@ use Rattle.laptop.specs.State.{is_open, gathered_list, ended, dropped, opened, w
 use Rattle.laptop.specs.declared.Candidate.{Candidate}
 use Rattle.laptop.specs.declared.Candidate.TheVariants.{Absent, Open, Done}
 use Rattle.laptop.specs.declared.Laptop.{Laptop}
-use Rattle.laptop.specs.declared.Step.{Step}
+use Rattle.laptop.specs.Step.{Step}
 use Rattle.laptop.specs.declared.Told.TheVariants.{Nothing}
 use Rattle.taking.specs.Taking.{verdict}
 use Rattle.taking.specs.declared.Verdict.{Verdict}

@@ -22,7 +22,7 @@ use Rattle.hearing.specs.Hearing.{only, with_opening, step_if_whole, list_if_who
 use Rattle.hearing.specs.Parts.{brings_part, hear_part, completes}
 use Rattle.laptop.specs.State.{Memory, memory, published}
 use Rattle.laptop.specs.declared.Laptop.{Laptop}
-use Rattle.laptop.specs.declared.Step.{Step}
+use Rattle.laptop.specs.Step.{Step}
 
 abbrev pub message_of : Head → ℕ → List ℕ → Message
 message_of h count words = record { head = h; objects = take count words }

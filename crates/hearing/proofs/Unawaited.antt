@@ -14,8 +14,7 @@ use Rattle.laptop.specs.declared.Candidate.{Candidate}
 use Rattle.laptop.specs.declared.Candidate.TheVariants.{Absent, Open, Done}
 use Rattle.laptop.specs.declared.Laptop.{Laptop}
 use Rattle.laptop.specs.declared.Told.TheVariants.{Attention}
-use Rattle.laptop.specs.declared.Wait.{Wait}
-use Rattle.laptop.specs.declared.Wait.TheVariants.{Nothing, Answer}
+use Rattle.std.specs.Prelude.{Option, Some, None}
 
 module _ (l : Laptop) (h : Head) (count object : ℕ) where
   pub request_attention : h.command ≡ 6 → accepted_with (Attention (notice_of h count object)) l ≡ hear_request l h count object
@@ -26,15 +25,15 @@ module _ (l : Laptop) (h : Head) (count object : ℕ) where
   unfolding hear_request
   request_other e = rw (ne_eqb _ _ e)
 
-pub fits_answer : (w : Wait) (r : Request) (h : Head) → w ≡ Answer r → same_request r (request_of h) ≡ fits w h
-fits_answer w r h e = sym (ap (λ (x : Wait). fits x h) e)
+pub fits_answer : (w : Option Request) (r : Request) (h : Head) → w ≡ Some r → same_request r (request_of h) ≡ fits w h
+fits_answer w r h e = sym (ap (λ (x : Option Request). fits x h) e)
 
 module _ (l : Laptop) (h : Head) where
-  pub late_awaited : (r : Request) → l.wait ≡ Answer r → false ≡ is_late_page l h
+  pub late_awaited : (r : Request) → l.wait ≡ Some r → false ≡ is_late_page l h
   unfolding is_late_page
   late_awaited r e = rw e
 
-  pub late_not_open : l.wait ≡ Nothing → (l.candidate ≡ Open → ⊥) → false ≡ is_late_page l h
+  pub late_not_open : l.wait ≡ None → (l.candidate ≡ Open → ⊥) → false ≡ is_late_page l h
   unfolding is_late_page
   late_not_open e k = rw e (go l.candidate k)
     where
@@ -43,11 +42,11 @@ module _ (l : Laptop) (h : Head) where
       go Open o = absurd (o refl)
       go Done o = refl
 
-  pub late_command : l.wait ≡ Nothing → l.candidate ≡ Open → (h.command ≡ 2 → ⊥) → false ≡ is_late_page l h
+  pub late_command : l.wait ≡ None → l.candidate ≡ Open → (h.command ≡ 2 → ⊥) → false ≡ is_late_page l h
   unfolding is_late_page
   late_command e f g = rw (e, f, ne_eqb _ _ g)
 
-  pub late_kind : l.wait ≡ Nothing → l.candidate ≡ Open → h.command ≡ 2 → eqb h.kind 1 ≡ is_late_page l h
+  pub late_kind : l.wait ≡ None → l.candidate ≡ Open → h.command ≡ 2 → eqb h.kind 1 ≡ is_late_page l h
   unfolding is_late_page
   late_kind e f g = rw (e, f, g)
 

@@ -1,18 +1,16 @@
 -- What a decision makes of the state and the buffer.
 use mathlib.Core.Path.{◌≡◌, ap, subst, sym, ◌∙◌}
-use mathlib.Core.Bool.{true}
 use mathlib.Core.List.{List}
-use Prim.Native.Nat.{ℕ, ◌+◌, ◌*◌, ◌<◌, ◌≤◌}
-use lib.Dec.{ltb}
+use Prim.Native.Nat.{ℕ, ◌+◌, ◌*◌}
 use lib.ListN.{length}
-use borrow.Author.Tests.{eq-eqb, ne_eqb, lt-ltb, le-ltb}
+use borrow.Author.Tests.{eq-eqb, ne_eqb}
 use Rattle.messages.specs.Layout.{Message}
 use Rattle.messages.specs.Writing.{write_refusal, Written}
 use Rattle.messages.specs.declared.Head.{Head}
 use Rattle.messages.specs.declared.edition.Edition.{Edition}
-use Rattle.laptop.specs.Calls.{Decision, refuses, accepts, sends, refused_by, accepted_with, sent_by, step_of, buffer_of, Stepped, unless, short_runs}
+use Rattle.laptop.specs.Calls.{Decision, refuses, accepts, sends, refused_by, accepted_with, sent_by, step_of, buffer_of, Stepped, unless}
 use Rattle.laptop.specs.declared.Laptop.{Laptop}
-use Rattle.laptop.specs.declared.Step.{Step}
+use Rattle.laptop.specs.Step.{Step}
 use Rattle.laptop.specs.declared.Told.{Told}
 
 pub refuse : (l next : Laptop) (decision : Decision) (number : ℕ) (out : List ℕ) (s : Step) → decision ≡ refuses number next →
@@ -74,13 +72,3 @@ module _ (n number : ℕ) (l : Laptop) (decision : Decision) (e : n ≡ number) 
   pub unless_passed : n ≡ 0 → unless number l decision ≡ decision
   unfolding unless
   unless_passed h = rw (← e, eq-eqb n 0 h)
-
--- short runs
-module _ (run held_run : ℕ) where
-  pub short_first : run < 432 → true ≡ short_runs run held_run
-  unfolding short_runs
-  short_first h = simp (lt-ltb _ _ h)
-
-  pub short_second : 432 ≤ run → ltb held_run 432 ≡ short_runs run held_run
-  unfolding short_runs
-  short_second h = simp (le-ltb _ _ h)

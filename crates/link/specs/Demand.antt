@@ -1,5 +1,5 @@
 -- What demand 3 says, in the words of document 01.
-use Rattle.std.specs.Prelude.{◌⊎◌, ◌≡◌, ℕ, ◌+◌, ◌/◌, ◌^◌, ◌<◌, ◌≤◌, true, false, List, [], ◌∷◌, length, take}
+use Rattle.std.specs.Prelude.{◌⊎◌, ◌≡◌, ℕ, ◌+◌, ◌/◌, ◌^◌, ◌<◌, ◌≤◌, true, false, List, [], ◌∷◌, length, take, Some, None}
 use Rattle.std.proofs.Math.Option.{Option, none, some}
 use Rattle.laws.specs.Bounded.{Below}
 use Rattle.messages.specs.Editions.{ours}
@@ -18,7 +18,6 @@ use Rattle.laptop.specs.Catalogue.{Entry, Catalogue}
 use Rattle.hearing.specs.Hearing.{is_late_page}
 use Rattle.owner.specs.Owner.{is_absent, request_message}
 use Rattle.laptop.specs.State.{gathered_list, identity_request}
-use Rattle.laptop.specs.declared.Wait.TheVariants.{Nothing, Answer}
 use Rattle.laptop_laws.specs.Effects.{start_over, drop, message, Kept}
 use Rattle.laptop_laws.specs.Holding.{Holding, holding}
 use Rattle.laptop_laws.specs.WellFormed.{awaits_identity, WellFormed}
@@ -38,7 +37,7 @@ pub record Meets (modes_of : ℕ → List ℕ) (d : Dock) : Type 0 where
 -- a Discover Identity has just gone out from a well-formed laptop, and nothing else is on its way; the dock is at rest, at any page
 pub record Begins (s : System) : Type 0 where
   pub formed : WellFormed s.laptop s.memory
-  pub identity_awaited : s.laptop.wait ≡ Answer identity_request
+  pub identity_awaited : s.laptop.wait ≡ Some identity_request
   pub identity_out : s.way ≡ request (message_bytes ours (request_message identity_request))
   pub nothing_else : s.fate ≡ gone
   pub at_rest : s.dock.standing ≡ Ready
@@ -46,7 +45,7 @@ pub record Begins (s : System) : Type 0 where
 -- before that: a well-formed laptop that awaits nothing, nothing on its way, and the dock at rest
 pub record AtRest (s : System) : Type 0 where
   pub formed : WellFormed s.laptop s.memory
-  pub nothing_awaited : s.laptop.wait ≡ Nothing
+  pub nothing_awaited : s.laptop.wait ≡ None
   pub nothing_comes : s.fate ≡ gone
   pub dock_ready : s.dock.standing ≡ Ready
 

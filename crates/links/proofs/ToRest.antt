@@ -8,9 +8,7 @@ use Rattle.messages.specs.declared.request.Request.{Request}
 use Rattle.dock.specs.Data.{listed}
 use Rattle.laptop.specs.Calls.{step_of, is_awaiting}
 use Rattle.laptop.specs.declared.Laptop.{Laptop}
-use Rattle.laptop.specs.declared.Wait.{Wait as LaptopWait}
-use Rattle.laptop.specs.declared.Wait.TheVariants.{Answer as LaptopAnswer}
-use Rattle.laptop.specs.declared.Wait.TheVariants.{Nothing as LaptopNothing}
+use Rattle.std.specs.Prelude.{Option, Some, None}
 use Rattle.owner.specs.Owner.{any_entered}
 use Rattle.timers.specs.Timers.{decide_error}
 use Rattle.laptop_laws.specs.Effects.{decided}
@@ -45,18 +43,18 @@ use Rattle.links.proofs.Lifting.{port_joined, lifted, exchanges_none}
 use Rattle.links.proofs.Shares.{share_runs}
 
 -- with nothing awaited no request is on its way, so that a protocol error changes nothing
-way_clear : (w : LaptopWait) (way : Way) → WayFits w way → w ≡ LaptopNothing → way ≡ clear
+way_clear : (w : Option Request) (way : Way) → WayFits w way → w ≡ None → way ≡ clear
 way_clear w clear f e = refl
 way_clear w (request bytes) f e = absurd (no (sym e ∙ f.awaited))
   where
-    no : {r : Request} → LaptopNothing ≡ LaptopAnswer r → ⊥
+    no : {r : Request} → None ≡ Some r → ⊥
     no x = false≢true (ap is_awaiting x)
 
-error_idle : (modes_of : ℕ → List ℕ) (s : System) → s.laptop.wait ≡ LaptopNothing → s.way ≡ clear → link_step modes_of (link_calls laptop_protocol_error []) s ≡ s
+error_idle : (modes_of : ℕ → List ℕ) (s : System) → s.laptop.wait ≡ None → s.way ≡ clear → link_step modes_of (link_calls laptop_protocol_error []) s ≡ s
 unfolding link_step link_called decide_error step_of way_after
 error_idle modes_of s idle free =
-    ap (λ (w : LaptopWait). after_call (decided s.laptop s.memory [] (decide_error s.laptop w)) s) idle ∙
-    ap (λ (w : LaptopWait). with_way (cond (is_awaiting w) s.way clear)) idle ∙ ap with_way (sym free)
+    ap (λ (w : Option Request). after_call (decided s.laptop s.memory [] (decide_error s.laptop w)) s) idle ∙
+    ap (λ (w : Option Request). with_way (cond (is_awaiting w) s.way clear)) idle ∙ ap with_way (sym free)
   where
     with_way : Way → System
     with_way way = record { laptop = s.laptop; memory = s.memory; way = way; fate = s.fate; dock = s.dock; highest = s.highest; lost = s.lost }
@@ -68,8 +66,8 @@ unfolding step called
 error_frees modes_of j named r e =
     ap (λ (t : Bool). (cond t j (called_on (concerns protocol_error w) (effect_in protocol_error [] (kept_in_of j)) j)).port.wait) (ap (λ (x : Wait). not (is_waiting x) || false) e) ∙
     ap (λ (x : Port). x.wait) (port_joined (waiting_side w) _ _ j) ∙ wait_after (waiting_side w) after j.port ∙
-    ap (λ (x : LaptopWait). wait_put (waiting_side w) x w) (error_ends (seen (waiting_side w) j.port) _ 0 refl) ∙
-    ap (λ (x : Wait). wait_put (waiting_side x) LaptopNothing x) e ∙ own named
+    ap (λ (x : Option Request). wait_put (waiting_side w) x w) (error_ends (seen (waiting_side w) j.port) _ 0 refl) ∙
+    ap (λ (x : Wait). wait_put (waiting_side x) None x) e ∙ own named
   where
     w : Wait
     w = j.port.wait
@@ -77,7 +75,7 @@ error_frees modes_of j named r e =
     after : Laptop
     after = (step_of (seen (waiting_side w) j.port) (decide_error (seen (waiting_side w) j.port) (seen (waiting_side w) j.port).wait) 0).laptop
 
-    own : (s : Side) → wait_put s LaptopNothing (Answer s r) ≡ Nothing
+    own : (s : Side) → wait_put s None (Answer s r) ≡ Nothing
     own Partner = refl
     own Cable = refl
 
@@ -144,7 +142,7 @@ module _ (modes_of : Side → ℕ → List ℕ) (side : Side) (start : Joint) (m
   reached = subst (Reached (modes_of side) (far_end side start).dock (held_words (system_seen side start))) (sym is)
       (there (modes_of side) (system_seen side start) meets begun (share modes_of side events start))
 
-  without_error : (system_seen side j).laptop.wait ≡ LaptopNothing → HoldsWhole (link_run (modes_of side) (arrive_and_gather modes_of side n out) (system_seen side j))
+  without_error : (system_seen side j).laptop.wait ≡ None → HoldsWhole (link_run (modes_of side) (arrive_and_gather modes_of side n out) (system_seen side j))
   unfolding link_run
   without_error idle =
       subst (λ (s : System). HoldsWhole (link_run (modes_of side) (arrive_and_gather modes_of side n out) s))

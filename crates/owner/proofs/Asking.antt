@@ -19,8 +19,7 @@ use Rattle.laptop.specs.declared.Candidate.{Candidate}
 use Rattle.laptop.specs.declared.Candidate.TheVariants.{Absent, Open, Done}
 use Rattle.laptop.specs.declared.Laptop.{Laptop}
 use Rattle.laptop.specs.declared.Told.TheVariants.{Nothing as ToldNothing}
-use Rattle.laptop.specs.declared.Wait.{Wait}
-use Rattle.laptop.specs.declared.Wait.TheVariants.{Nothing, Answer}
+use Rattle.std.specs.Prelude.{Option, Some, None}
 use Rattle.laptop.proofs.Steps.{unless_refused, unless_passed}
 
 module _ (run held_run : ℕ) where
@@ -30,15 +29,15 @@ module _ (run held_run : ℕ) where
     unfolding owner_refusal
     owner_short s = rw s
 
-    by_wait : short_runs run held_run ≡ false → (w : Wait) → l.wait ≡ w → owner_refusal l run held_run ≡ cond (is_awaiting w) 7 0
+    by_wait : short_runs run held_run ≡ false → (w : Option Request) → l.wait ≡ w → owner_refusal l run held_run ≡ cond (is_awaiting w) 7 0
     unfolding owner_refusal
-    by_wait s w e = rw s (ap (λ (x : Wait). cond (is_awaiting x) 7 0) e)
+    by_wait s w e = rw s (ap (λ (x : Option Request). cond (is_awaiting x) 7 0) e)
 
-    pub owner_awaits : short_runs run held_run ≡ false → (r : Request) → l.wait ≡ Answer r → 7 ≡ owner_refusal l run held_run
-    owner_awaits s r e = sym (by_wait s (Answer r) e)
+    pub owner_awaits : short_runs run held_run ≡ false → (r : Request) → l.wait ≡ Some r → 7 ≡ owner_refusal l run held_run
+    owner_awaits s r e = sym (by_wait s (Some r) e)
 
-    pub owner_free : short_runs run held_run ≡ false → l.wait ≡ Nothing → 0 ≡ owner_refusal l run held_run
-    owner_free s e = sym (by_wait s Nothing e)
+    pub owner_free : short_runs run held_run ≡ false → l.wait ≡ None → 0 ≡ owner_refusal l run held_run
+    owner_free s e = sym (by_wait s None e)
 
     -- what refuses next and start over
     module _ (entered : List ℕ) (n : ℕ) (e : n ≡ owner_refusal l run held_run) where
@@ -74,11 +73,11 @@ any_none l i h = ap any_entered (drop_of_length-le l h)
 
 -- Identity awaited
 pub identity_awaits : (l : Laptop) (r : Request) → r ≡ discover pd_sid identity_command →
-    record { wait = Answer r; candidate = Absent; gathered = l.gathered; stored = l.stored; pages = 0; held = l.held; edition = ours } ≡ identity_asked l
+    record { wait = Some r; candidate = Absent; gathered = l.gathered; stored = l.stored; pages = 0; held = l.held; edition = ours } ≡ identity_asked l
 identity_awaits l r e =
     ap
     (λ (x : Request).
-    record { wait = Answer x; candidate = Absent; gathered = l.gathered; stored = l.stored; pages = 0; held = l.held; edition = ours })
+    record { wait = Some x; candidate = Absent; gathered = l.gathered; stored = l.stored; pages = 0; held = l.held; edition = ours })
     e
 
 -- a request sent

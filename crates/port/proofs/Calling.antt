@@ -8,9 +8,10 @@ use borrow.Author.Tests.{eq-eqb, ne_eqb}
 use Rattle.messages.specs.Reading.{read_outcome}
 use Rattle.laptop.specs.Calls.{Decision, refuses, refused_by, step_of, buffer_of, Stepped, unless, short_runs}
 use Rattle.laptop.specs.declared.Laptop.{Laptop}
-use Rattle.laptop.specs.declared.Step.{Step as LaptopAsStep}
+use Rattle.laptop.specs.Step.{Step as LaptopAsStep}
 use Rattle.laptop.specs.State.{LentMemory, fresh_laptop}
-use Rattle.laptop.specs.declared.Held.{Held}
+use Rattle.std.specs.Prelude.{Option}
+use Rattle.laptop.specs.declared.Size.{Size}
 use Rattle.hearing.specs.Hearing.{heard}
 use Rattle.catalogue.specs.Bytes.{held_catalogue, CatalogueWritten}
 use Rattle.catalogue.specs.declared.Bytes.{Bytes}
@@ -94,7 +95,7 @@ pub held_seen : (side : Side) (p : Port) {l : Laptop} → l ≡ seen side p → 
 unfolding seen
 held_seen side p e = ap (λ (x : Laptop). x.held) e
 
-pub written_as : (identity svids modes run : List ℕ) {held held' : Held} {words : ℕ} {out after : List ℕ} {result : Bytes} → held ≡ held' →
+pub written_as : (identity svids modes run : List ℕ) {held held' : Option Size} {words : ℕ} {out after : List ℕ} {result : Bytes} → held ≡ held' →
     CatalogueWritten (held_catalogue held identity svids modes run) words out result after →
     CatalogueWritten (held_catalogue held' identity svids modes run) words out result after
 written_as identity svids modes run e written = rw e at written

@@ -3,9 +3,7 @@ use mathlib.Core.Path.{◌≡◌, ap, sym, ◌∙◌}
 use mathlib.Core.Bool.{Bool, true, false, cond, not}
 use Rattle.messages.specs.declared.request.Request.{Request}
 use Rattle.laptop.specs.declared.Laptop.{Laptop}
-use Rattle.laptop.specs.declared.Wait.{Wait as LaptopWait}
-use Rattle.laptop.specs.declared.Wait.TheVariants.{Nothing as LaptopNothing}
-use Rattle.laptop.specs.declared.Wait.TheVariants.{Answer as LaptopAnswer}
+use Rattle.std.specs.Prelude.{Option, Some, None}
 use Rattle.port.specs.Sides.{same_side, is_others, wait_seen, wait_named, wait_put, own_of, own_in, laptop_with, seen, with_own, put_back}
 use Rattle.port.specs.declared.Own.{Own}
 use Rattle.port.specs.declared.Port.{Port}
@@ -20,23 +18,23 @@ module _ (side : Side) (w : Wait) (named : Side) (r : Request) (is : w ≡ Answe
 
 -- what is awaited from a named side, to a side
 module _ (side named : Side) (r : Request) {t : Bool} (same : t ≡ same_side named side) where
-  pub seen_own : t ≡ true → LaptopAnswer r ≡ wait_seen side (Answer named r)
-  seen_own e = sym (ap (λ b. cond b (LaptopAnswer r) LaptopNothing) (sym same ∙ e))
+  pub seen_own : t ≡ true → Some r ≡ wait_seen side (Answer named r)
+  seen_own e = sym (ap (λ b. cond b (Some r) None) (sym same ∙ e))
 
-  pub seen_nothing : t ≡ false → LaptopNothing ≡ wait_seen side (Answer named r)
-  seen_nothing e = sym (ap (λ b. cond b (LaptopAnswer r) LaptopNothing) (sym same ∙ e))
+  pub seen_nothing : t ≡ false → None ≡ wait_seen side (Answer named r)
+  seen_nothing e = sym (ap (λ b. cond b (Some r) None) (sym same ∙ e))
 
-pub named_answer : (side : Side) (w : LaptopWait) (r : Request) → w ≡ LaptopAnswer r → Answer side r ≡ wait_named side w
+pub named_answer : (side : Side) (w : Option Request) (r : Request) → w ≡ Some r → Answer side r ≡ wait_named side w
 named_answer side w r is = sym (ap (wait_named side) is)
 
-module _ (side : Side) (after : LaptopWait) (before : Wait) {t : Bool} (others : t ≡ is_others side before) where
+module _ (side : Side) (after : Option Request) (before : Wait) {t : Bool} (others : t ≡ is_others side before) where
   pub put_others : t ≡ true → before ≡ wait_put side after before
   put_others e = sym (ap (λ b. cond b before (wait_named side after)) (sym others ∙ e))
 
   pub put_own : t ≡ false → {named : Wait} → named ≡ wait_named side after → named ≡ wait_put side after before
   put_own e f = f ∙ sym (ap (λ b. cond b before (wait_named side after)) (sym others ∙ e))
 
-pub seen_is : (side : Side) (p : Port) {w : LaptopWait} {own : Own} → w ≡ wait_seen side p.wait → own ≡ own_of side p → laptop_with w own ≡ seen side p
+pub seen_is : (side : Side) (p : Port) {w : Option Request} {own : Own} → w ≡ wait_seen side p.wait → own ≡ own_of side p → laptop_with w own ≡ seen side p
 unfolding seen
 seen_is side p {own = own} e f = ap (λ x. laptop_with x own) e ∙ ap (laptop_with (wait_seen side p.wait)) f
 

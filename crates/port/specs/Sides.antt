@@ -1,11 +1,9 @@
 -- Two laptops of document 01 and one wait (02, R-4).
-use Rattle.std.specs.Prelude.{Bool, true, false, cond, not}
+use Rattle.std.specs.Prelude.{Bool, true, false, cond, not, Option, Some, None}
 use Rattle.laptop.specs.State.{fresh_laptop}
 use Rattle.laptop.specs.declared.Laptop.{Laptop}
-use Rattle.laptop.specs.declared.Step.{Step as LaptopAsStep}
-use Rattle.laptop.specs.declared.Wait.{Wait as LaptopWait}
-use Rattle.laptop.specs.declared.Wait.TheVariants.{Nothing as LaptopNothing}
-use Rattle.laptop.specs.declared.Wait.TheVariants.{Answer as LaptopAnswer}
+use Rattle.laptop.specs.Step.{Step as LaptopAsStep}
+use Rattle.messages.specs.declared.request.Request.{Request}
 use Rattle.port.specs.declared.Own.{Own}
 use Rattle.port.specs.declared.Port.{Port}
 use Rattle.port.specs.declared.Side.{Side}
@@ -26,16 +24,16 @@ is_others side Nothing = false
 is_others side (Answer named r) = not (same_side named side)
 
 -- to a side, what the other awaits is nothing
-abbrev pub wait_seen : Side → Wait → LaptopWait
-wait_seen side Nothing = LaptopNothing
-wait_seen side (Answer named r) = cond (same_side named side) (LaptopAnswer r) LaptopNothing
+abbrev pub wait_seen : Side → Wait → Option Request
+wait_seen side Nothing = None
+wait_seen side (Answer named r) = cond (same_side named side) (Some r) None
 
-abbrev pub wait_named : Side → LaptopWait → Wait
-wait_named side LaptopNothing = Nothing
-wait_named side (LaptopAnswer r) = Answer side r
+abbrev pub wait_named : Side → Option Request → Wait
+wait_named side None = Nothing
+wait_named side (Some r) = Answer side r
 
 -- what is awaited once a side awaits this; what the other awaits stays
-abbrev pub wait_put : Side → LaptopWait → Wait → Wait
+abbrev pub wait_put : Side → Option Request → Wait → Wait
 wait_put side after before = cond (is_others side before) before (wait_named side after)
 
 abbrev pub own_of : Side → Port → Own
@@ -46,7 +44,7 @@ abbrev pub own_in : Laptop → Own
 own_in l =
     record { candidate = l.candidate; gathered = l.gathered; stored = l.stored; pages = l.pages; held = l.held; edition = l.edition }
 
-abbrev pub laptop_with : LaptopWait → Own → Laptop
+abbrev pub laptop_with : Option Request → Own → Laptop
 laptop_with wait own =
     record {
       wait = wait;

@@ -14,7 +14,7 @@ use Rattle.laptop.specs.State.{published}
 use Rattle.laptop.specs.declared.Candidate.{Candidate}
 use Rattle.laptop.specs.declared.Candidate.TheVariants.{Absent, Open, Done}
 use Rattle.laptop.specs.declared.Laptop.{Laptop}
-use Rattle.laptop.specs.declared.Step.{Step}
+use Rattle.laptop.specs.Step.{Step}
 
 mode_past : (modes : List ℕ) (k : ℕ) → length modes ≤ k / 6 → is_mode modes k ≡ false
 unfolding is_mode

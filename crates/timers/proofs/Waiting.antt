@@ -9,9 +9,7 @@ use Rattle.timers.specs.Timers.{over, decide_timer, decide_error}
 use Rattle.laptop.specs.declared.Laptop.{Laptop}
 use Rattle.laptop.specs.declared.Told.{Told}
 use Rattle.laptop.specs.declared.Told.TheVariants.{Nothing, Timer, ProtocolError}
-use Rattle.laptop.specs.declared.Wait.{Wait}
-use Rattle.laptop.specs.declared.Wait.TheVariants.{Answer}
-use Rattle.laptop.specs.declared.Wait.TheVariants.{Nothing as WaitNothing}
+use Rattle.std.specs.Prelude.{Option, Some, None}
 
 module _ (l : Laptop) (r : Request) (told : Told) where
   pub over_identity : r.command ≡ 1 → over l r told ≡ accepts Nothing (dropped l)
@@ -26,12 +24,12 @@ module _ (l : Laptop) (r : Request) (told : Told) where
   unfolding over
   over_told n h = rw (ne_eqb _ _ n, le-ltb _ _ h)
 
-module _ (first last : ℕ) (l : Laptop) (w : Wait) where
-  pub timer_none : w ≡ WaitNothing → decide_timer first last l w ≡ refuses 9 l
+module _ (first last : ℕ) (l : Laptop) (w : Option Request) where
+  pub timer_none : w ≡ None → decide_timer first last l w ≡ refuses 9 l
   unfolding decide_timer
   timer_none e = ap (decide_timer first last l) e
 
-  module _ (r : Request) (e : w ≡ Answer r) where
+  module _ (r : Request) (e : w ≡ Some r) where
     pub timer_early : r.command < first → decide_timer first last l w ≡ refuses 9 l
     unfolding decide_timer
     timer_early h = ap (decide_timer first last l) e ∙ simp (lt-leb _ _ h)
@@ -44,10 +42,10 @@ module _ (first last : ℕ) (l : Laptop) (w : Wait) where
     unfolding decide_timer
     timer_over h h' = ap (decide_timer first last l) e ∙ simp (le-leb _ _ h, le-leb _ _ h')
 
-pub error_none : (l : Laptop) (w : Wait) → w ≡ WaitNothing → decide_error l w ≡ refuses 9 l
+pub error_none : (l : Laptop) (w : Option Request) → w ≡ None → decide_error l w ≡ refuses 9 l
 unfolding decide_error
 error_none l w e = ap (decide_error l) e
 
-pub error_over : (l : Laptop) (w : Wait) (r : Request) → w ≡ Answer r → decide_error l w ≡ over l r (ProtocolError r)
+pub error_over : (l : Laptop) (w : Option Request) (r : Request) → w ≡ Some r → decide_error l w ≡ over l r (ProtocolError r)
 unfolding decide_error
 error_over l w r e = ap (decide_error l) e

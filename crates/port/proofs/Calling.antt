@@ -18,8 +18,6 @@ use Rattle.port.specs.declared.Refused.{Refused}
 use Rattle.port.proofs.Seeing.{put_seen}
 use Rattle.laptop.specs.declared.Size.{Size}
 use Rattle.hearing.specs.Hearing.{heard}
-use Rattle.catalogue.specs.Bytes.{held_catalogue, CatalogueWritten}
-use Rattle.catalogue.specs.declared.Bytes.{Bytes}
 use Rattle.port.specs.Calls.{OwnersLaptop, HearsOn, is_waiting, owners_refusal, owners_decision, Owners, waiting_side, concerning}
 use Rattle.port.specs.Sides.{own_of, own_in, seen, put_back, stepped_on, fresh_port}
 use Rattle.port.specs.declared.Own.{Own}
@@ -62,8 +60,3 @@ heard_on side p bytes m e h g = (
   g ∙ ap (stepped_on side p) (h.0 ∙ ap (λ (x : Laptop). (heard x m.entry (read_outcome bytes)).step) e),
   h.1 ∙ ap (λ (x : Laptop). (heard x m.entry (read_outcome bytes)).after) e,
 )
-
-pub written_as : (identity svids modes run : List ℕ) {held held' : Option Size} {words : ℕ} {out after : List ℕ} {result : Bytes} → held ≡ held' →
-    CatalogueWritten (held_catalogue held identity svids modes run) words out result after →
-    CatalogueWritten (held_catalogue held' identity svids modes run) words out result after
-written_as identity svids modes run e written = rw e at written

@@ -92,8 +92,11 @@ module _ (n number : ℕ) (l : Laptop) (decision : Decision) (e : n ≡ number) 
 
 -- what was checked before a decision refuses, or lets it be taken
 module _ (l : Laptop) (number : ℕ) (decision : Decision) (out : List ℕ) (n : ℕ) (e : n ≡ number) where
+  pub stop_at : (s : Step) → (n ≡ 0 → ⊥) → s ≡ refused_by n l → Stepped l (unless number l decision) out s out
+  stop_at s h is = refuse l l _ n out s (unless_refused n number l decision e h) is
+
   pub stop : (x : Result Accepted Refused) → IsErr x → stepped x ≡ refused_by n l → Stepped l (unless number l decision) out (stepped x) out
-  stop x h is = refuse l l _ n out _ (unless_refused n number l decision e (refused_some x n l h is)) is
+  stop x h is = stop_at (stepped x) (refused_some x n l h is) is
 
   pub go_on : (s : Step) (after : List ℕ) → n ≡ 0 → Stepped l decision out s after → Stepped l (unless number l decision) out s after
   go_on s after z = same l _ decision out s after (unless_passed n number l decision e z)

@@ -1,4 +1,4 @@
-#![tactic(auto, using(crate::proofs::Text::with_both, std::proofs::lemmas::Fmt::decimal_step, std::proofs::lemmas::Fmt::decimal_digit))]
+#![tactic(auto, using(crate::proofs::Text::with_both))]
 
 // What the programs share of writing: a line of output, built in a buffer that is lent.
 pub mod line;

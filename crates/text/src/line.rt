@@ -101,19 +101,17 @@ impl<const N: usize> Line<N> {
     pub fn text(&mut self, text: &[u8])
         ensures { self.new ≡ with_text N self.old text.now }
     {
-        for byte in text {
-            self.byte(*byte);
-        }
+        let count = text.len().min(N - self.end);
+        let bytes = &mut self.bytes[..];
+        bytes[self.end..self.end + count].copy_from_slice(&text[..count]);
+        self.end += count;
     }
 
-    // The library's `io::decimal` divides by a base that it is given; a division by a constant is a multiplication.
+    // The library takes two digits from each division.
     pub fn decimal(&mut self, number: u64)
         ensures { self.new ≡ with_text N self.old (decimal number) }
     {
-        if 10 <= number {
-            self.decimal(number / 10);
-        }
-        self.byte(b'0' + (number % 10) as u8);
+        self.text(itoa::Buffer::new().format(number).as_bytes());
     }
 
     // The number has a space before it.

@@ -1,9 +1,9 @@
 // What a line says of its event and of a side's laptop. Each field but the first has a space before it, and is `-`
 // where there is nothing to tell.
 use crate::line::Line;
-use laptop::{Candidate, Held, Laptop};
-use messages::Request;
-use port::{Side, Wait};
+use laptop::{Candidate, Laptop, Size};
+use messages::{Refusal, Request};
+use port::Side;
 use text::line;
 
 // A line starts with the number of a stream and of an event in it.
@@ -36,8 +36,8 @@ pub fn add_side(line: &mut Line, side: Side) {
 }
 
 // The side whose answer is awaited, and the request.
-pub fn add_awaited(line: &mut Line, wait: Wait) {
-    let Wait::Answer(side, request) = wait else {
+pub fn add_awaited(line: &mut Line, wait: Option<(Side, Request)>) {
+    let Some((side, request)) = wait else {
         return line.nothing();
     };
     add_side(line, side);
@@ -63,9 +63,17 @@ pub fn add_candidate(line: &mut Line, laptop: Laptop) {
 }
 
 // The number of held SVIDs.
-pub fn add_held<const N: usize>(line: &mut line::Line<N>, held: Held) {
+pub fn add_held<const N: usize>(line: &mut line::Line<N>, held: Option<Size>) {
     match held {
-        Held::Nothing => line.nothing(),
-        Held::Catalogue(size) => line.field(size.count),
+        Some(size) => line.field(size.count),
+        None => line.nothing(),
+    }
+}
+
+// The number of what a call led to: 0, or the refusal's.
+pub fn add_outcome<const N: usize>(line: &mut line::Line<N>, outcome: Result<(), Refusal>) {
+    match outcome {
+        Ok(()) => line.field(0u8),
+        Err(refusal) => line.field(u8::from(refusal)),
     }
 }

@@ -1,10 +1,10 @@
 // The laptop end's owner as one value: the port, and what the calls for each side are lent.
 ghost use Rattle.std.specs.Prelude.{◌≤◌};
 
-use catalogue::Bytes;
 use events::Call;
 use laptop::Laptop;
-use port::{Port, Side, Step, seen, write_catalogue};
+use messages::Refusal;
+use port::{Accepted, Port, Refused, Side, seen, write_catalogue};
 
 // More words than a run needs.
 pub const RUN: usize = 440;
@@ -46,7 +46,7 @@ impl Memory {
     }
 
     // What a message gave. It may write to all that its side is lent.
-    fn hear(&mut self, port: Port, side: Side, bytes: &[u8]) -> Step {
+    fn hear(&mut self, port: Port, side: Side, bytes: &[u8]) -> Result<Accepted, Refused> {
         let run = &mut self.run[..];
         let held_run = &mut self.held_run[..];
         port::message(
@@ -66,7 +66,13 @@ impl Memory {
     }
 
     // What a call gave that is no message. A timer or the protocol error concerns the side that waits.
-    fn make(&self, port: Port, side: Side, call: Call, out: &mut [u8]) -> Step {
+    fn make(
+        &self,
+        port: Port,
+        side: Side,
+        call: Call,
+        out: &mut [u8],
+    ) -> Result<Accepted, Refused> {
         let run = &self.run[..self.run_words];
         let held_run = &self.held_run[..self.held_words];
         match call {
@@ -112,6 +118,26 @@ pub struct Owner {
     cable: Memory,
 }
 
+// Without what it handed over.
+pub fn outcome_of(stepped: Result<Accepted, Refused>) -> Result<(), Refusal> {
+    match stepped {
+        Ok(_) => Ok(()),
+        Err(refused) => Err(refused.refusal),
+    }
+}
+
+// Whether the bytes in the output buffer are to be sent.
+pub fn sends(stepped: Result<Accepted, Refused>) -> bool {
+    stepped.is_ok_and(|accepted| accepted.length != 0)
+}
+
+fn port_after(stepped: Result<Accepted, Refused>) -> Port {
+    match stepped {
+        Ok(accepted) => accepted.port,
+        Err(refused) => refused.port,
+    }
+}
+
 impl Owner {
     // The owner of a fresh port, who lends runs that are full of a word.
     pub fn new(word: u32) -> Owner {
@@ -151,18 +177,18 @@ impl Owner {
     }
 
     // A message from the side.
-    pub fn hear(&mut self, side: Side, bytes: &[u8]) -> Step {
+    pub fn hear(&mut self, side: Side, bytes: &[u8]) -> Result<Accepted, Refused> {
         let port = self.port;
-        let step = self.memory_mut(side).hear(port, side, bytes);
-        self.port = step.port;
-        step
+        let stepped = self.memory_mut(side).hear(port, side, bytes);
+        self.port = port_after(stepped);
+        stepped
     }
 
     // A call that is no message changes nothing but the port.
-    pub fn make(&mut self, side: Side, call: Call, out: &mut [u8]) -> Step {
-        let step = self.memory(side).make(self.port, side, call, out);
-        self.port = step.port;
-        step
+    pub fn make(&mut self, side: Side, call: Call, out: &mut [u8]) -> Result<Accepted, Refused> {
+        let stepped = self.memory(side).make(self.port, side, call, out);
+        self.port = port_after(stepped);
+        stepped
     }
 
     // How many modes of the SVID are entered on the side.
@@ -172,7 +198,7 @@ impl Owner {
     }
 
     // Writes the catalogue that the side holds.
-    pub fn write_held(&self, side: Side, out: &mut [u8]) -> Bytes {
+    pub fn write_held(&self, side: Side, out: &mut [u8]) -> Result<u16, Refusal> {
         let memory = self.memory(side);
         write_catalogue(
             self.port,

@@ -1,11 +1,12 @@
 // What an event leads to.
 use crate::event::{CATALOGUE_ROOM, Event, Lengths};
 use driving::digest::of_bytes;
-use driving::owning::Owner;
+use driving::owning::{Owner, sends};
 use events::Call;
 use laptop::Told;
-use port::{Side, Step};
-use streams::input::GREATEST;
+use messages::Refusal;
+use port::{Accepted, Refused, Side};
+use streams::input::{GREATEST, first_bytes};
 
 // How many bytes the output buffer of the owner's calls has at the start.
 const FIRST_OUTPUT: u8 = 32;
@@ -29,7 +30,7 @@ pub struct State {
 #[derive(Clone, Copy)]
 pub struct Answer {
     pub side: Side,
-    pub refusal: u8,
+    pub outcome: Result<(), Refusal>,
     pub sent: Option<u32>,
     pub output: Option<u32>,
     pub told: Told,
@@ -42,7 +43,7 @@ impl Answer {
     fn quiet(side: Side) -> Answer {
         Answer {
             side,
-            refusal: 0,
+            outcome: Ok(()),
             sent: None,
             output: None,
             told: Told::Nothing,
@@ -52,11 +53,16 @@ impl Answer {
     }
 
     // Nothing is sent.
-    fn stepped(step: Step) -> Answer {
-        Answer {
-            refusal: step.refusal,
-            told: step.told,
-            ..Answer::quiet(step.side)
+    fn stepped(stepped: Result<Accepted, Refused>) -> Answer {
+        match stepped {
+            Ok(accepted) => Answer {
+                told: accepted.told,
+                ..Answer::quiet(accepted.side)
+            },
+            Err(refused) => Answer {
+                outcome: Err(refused.refusal),
+                ..Answer::quiet(refused.side)
+            },
         }
     }
 }
@@ -112,25 +118,25 @@ impl State {
     fn make(&mut self, side: Side, call: Call) -> Answer {
         let mut buffer = [UNWRITTEN; GREATEST];
         let output = &mut buffer[..usize::from(self.output_for(side))];
-        let step = self.owner.make(side, call, output);
+        let stepped = self.owner.make(side, call, output);
         Answer {
-            sent: request_in(output).filter(|_| step.length != 0),
+            sent: request_in(output).filter(|_| sends(stepped)),
             output: may_send(call).then(|| of_bytes(output)),
-            ..Answer::stepped(step)
+            ..Answer::stepped(stepped)
         }
     }
 
     fn write(&self, side: Side, room: usize) -> Answer {
         let mut buffer = [UNWRITTEN; CATALOGUE_ROOM];
         let output = &mut buffer[..room.min(CATALOGUE_ROOM)];
-        let bytes = self.owner.write_held(side, output);
-        let written = output
-            .get(..usize::from(bytes.length))
-            .filter(|_| bytes.refusal == 0);
+        let written = self.owner.write_held(side, output);
         Answer {
-            refusal: bytes.refusal,
+            outcome: written.map(|_| ()),
             output: Some(of_bytes(output)),
-            catalogue: written.map(|written| (bytes.length, of_bytes(written))),
+            catalogue: written.ok().map(|length| (
+                length,
+                of_bytes(first_bytes(output, usize::from(length))),
+            )),
             ..Answer::quiet(side)
         }
     }

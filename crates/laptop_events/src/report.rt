@@ -3,12 +3,12 @@
 use crate::answering::Answer;
 use driving::digest::of_words;
 use driving::fields::{
-    add_awaited, add_candidate, add_held, add_part, add_request, add_side, begin_line,
+    add_awaited, add_candidate, add_held, add_outcome, add_part, add_request, add_side, begin_line,
 };
 use driving::line::Line;
 use driving::owning::{Memory, Owner, other};
 use laptop::{Laptop, Notice, Told};
-use messages::{Request, edition_number};
+use messages::Request;
 
 fn add_word(line: &mut Line, word: Option<u32>) {
     match word {
@@ -44,7 +44,7 @@ fn add_told(line: &mut Line, told: Told) {
 
 fn add_step(line: &mut Line, answer: &Answer) {
     add_side(line, answer.side);
-    line.field(answer.refusal);
+    add_outcome(line, answer.outcome);
     add_word(line, answer.sent);
     add_word(line, answer.output);
     add_told(line, answer.told);
@@ -54,7 +54,7 @@ fn add_laptop(line: &mut Line, laptop: Laptop) {
     add_candidate(line, laptop);
     line.field(laptop.pages);
     add_held(line, laptop.held);
-    line.edition(edition_number(laptop.edition));
+    line.edition(u8::from(laptop.edition));
 }
 
 fn add_runs(line: &mut Line, memory: &Memory) {

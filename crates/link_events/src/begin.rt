@@ -19,7 +19,10 @@ const OLD_MODE: u32 = 0x55;
 const EXCHANGES: usize = 3;
 
 fn old_dock() -> Dock {
-    loading::load(dock::fresh(), &[1, 2, 3], &[OLD_SVID]).dock
+    loading::load(dock::fresh(), &[1, 2, 3], &[OLD_SVID]).map_or(
+        dock::fresh(),
+        |accepted| accepted.dock,
+    )
 }
 
 fn exchange(joined: &mut Joined<'_>) {

@@ -1,12 +1,12 @@
 // The laptop end's owner and the far end of a side's link, joined. An event that is not permitted changes nothing.
 use crate::event::Event;
-use driving::owning::Owner;
+use driving::owning::{Owner, outcome_of, sends};
 use events::Call;
-use laptop::{Candidate, Laptop, Wait};
+use laptop::{Candidate, Laptop};
 use linking::far_end::FarEnd;
 use linking::link::REQUEST;
 use messages::{ENTER, EXIT};
-use port::Side;
+use port::{Accepted, Refused, Side};
 
 #[derive(Drop)]
 pub struct Joined<'a> {
@@ -24,7 +24,7 @@ fn timer_of(command: u8) -> Call {
 }
 
 fn has_candidate(laptop: Laptop) -> bool {
-    !matches!(laptop.candidate, Candidate::Absent)
+    laptop.candidate != Candidate::Absent
 }
 
 impl<'a> Joined<'a> {
@@ -61,18 +61,18 @@ impl<'a> Joined<'a> {
     // The timer is that of the awaited command; with nothing awaited there is none.
     fn run_out(&mut self) {
         match self.owner.laptop(self.side).wait {
-            Wait::Nothing => self.far_end.permit(false),
-            Wait::Answer(request) => self.make(timer_of(request.command)),
+            Some(request) => self.make(timer_of(request.command)),
+            None => self.far_end.permit(false),
         }
     }
 
     fn make(&mut self, call: Call) {
         let mut request = [0; REQUEST];
-        let step = self.owner.make(self.side, call, &mut request);
-        if step.length != 0 {
+        let stepped = self.owner.make(self.side, call, &mut request);
+        if sends(stepped) {
             self.far_end.link.request = Some(request);
         }
-        self.step(step.refusal);
+        self.step(stepped);
     }
 
     // The answer arrives. The confirmations lost start anew where it opens a list.
@@ -81,7 +81,7 @@ impl<'a> Joined<'a> {
             return;
         };
         let before = self.owner.laptop(self.side);
-        let step = self.owner.hear(self.side, answer.bytes());
+        let stepped = self.owner.hear(self.side, answer.bytes());
         let after = self.owner.laptop(self.side);
         let answer = answer.arrived(before.pages < after.pages);
         self.far_end.link.answer = Some(answer);
@@ -89,13 +89,13 @@ impl<'a> Joined<'a> {
             self.far_end.lost = 0;
         }
         self.far_end.count_lost(answer.is_failed_page());
-        self.step(step.refusal);
+        self.step(stepped);
     }
 
     // What a call of the laptop led to. A request not yet at the dock when its wait ends is lost.
-    fn step(&mut self, refusal: u8) {
-        self.far_end.refusal = Some(refusal);
-        if matches!(self.owner.laptop(self.side).wait, Wait::Nothing) {
+    fn step(&mut self, stepped: Result<Accepted, Refused>) {
+        self.far_end.outcome = Some(outcome_of(stepped));
+        if self.owner.laptop(self.side).wait.is_none() {
             self.far_end.link.request = None;
         }
     }

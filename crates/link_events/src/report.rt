@@ -2,12 +2,11 @@
 // side's link stand then, and how the other side's laptop stands.
 use crate::system::Ends;
 use driving::digest::of_bytes;
-use driving::fields::{add_candidate, add_held, add_side, begin_line};
+use driving::fields::{add_candidate, add_held, add_outcome, add_side, begin_line};
 use driving::line::Line;
 use driving::owning::{Owner, other};
 use laptop::Laptop;
 use linking::far_end::FarEnd;
-use messages::edition_number;
 use port::Side;
 use streams::input::first_bytes;
 
@@ -19,8 +18,8 @@ fn add_event(line: &mut Line, far_end: &FarEnd) {
     } else {
         line.nothing();
     }
-    match far_end.refusal {
-        Some(number) => line.field(number),
+    match far_end.outcome {
+        Some(outcome) => add_outcome(line, outcome),
         None => line.nothing(),
     }
 }
@@ -34,11 +33,9 @@ fn add_laptop(line: &mut Line, laptop: Laptop) {
 // The digest of the bytes of the side's held catalogue.
 fn add_catalogue(line: &mut Line, owner: &Owner, side: Side) {
     let mut buffer = [0; LONGEST_CATALOGUE];
-    let bytes = owner.write_held(side, &mut buffer);
-    if bytes.refusal == 0 {
-        line.spaced_word(of_bytes(first_bytes(&buffer, usize::from(bytes.length))));
-    } else {
-        line.nothing();
+    match owner.write_held(side, &mut buffer) {
+        Ok(length) => line.spaced_word(of_bytes(first_bytes(&buffer, usize::from(length)))),
+        Err(_) => line.nothing(),
     }
 }
 
@@ -53,9 +50,9 @@ pub fn print_event(stream: u64, number: u64, side: Side, ends: &Ends) {
     add_catalogue(&mut line, &ends.owner, side);
     line.field(far_end.dock.page);
     line.field(far_end.lost);
-    line.edition(edition_number(laptop.edition));
-    line.edition(edition_number(far_end.dock.edition));
+    line.edition(u8::from(laptop.edition));
+    line.edition(u8::from(far_end.dock.edition));
     add_laptop(&mut line, other_laptop);
-    line.edition(edition_number(other_laptop.edition));
+    line.edition(u8::from(other_laptop.edition));
     line.print_line();
 }

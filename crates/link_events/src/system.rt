@@ -5,7 +5,7 @@ use crate::joined::Joined;
 use driving::owning::Owner;
 use linking::far_end::FarEnd;
 use linking::start::Start;
-use port::{Port, Side, Wait};
+use port::{Port, Side};
 
 // Each side has a far end.
 #[derive(Clone, Copy)]
@@ -17,9 +17,8 @@ pub struct Ends {
 
 // A timer or the protocol error concerns the side that waits, or the partner where none does.
 fn side_of(said: Side, event: Event, port: Port) -> Side {
-    match (event, port.wait) {
-        (Event::Timer | Event::ProtocolError, Wait::Answer(side, _)) => side,
-        (Event::Timer | Event::ProtocolError, Wait::Nothing) => Side::Partner,
+    match event {
+        Event::Timer | Event::ProtocolError => port.wait.map_or(Side::Partner, |(side, _)| side),
         _ => said,
     }
 }

@@ -6,9 +6,7 @@ use crate::link::{ANSWER, Answer};
 use crate::objects::Objects;
 use dock::{Policy, Standing};
 use messages::{MODES, Request, SVIDS};
-use pages::first_svids;
-
-const PER_PAGE: u8 = 12;
+use pages::{PER_PAGE, first_svids};
 
 impl FarEnd {
     pub fn take(&mut self, event: Event) {
@@ -24,7 +22,7 @@ impl FarEnd {
     fn hear(&mut self, event: Event) {
         let is_lost = self.link.loses_confirmation(event);
         self.count_lost(is_lost);
-        let step = match event {
+        let stepped = match event {
             Event::Sent => confirming::sent(self.dock),
             Event::Failed => confirming::failed(self.dock),
             _ => {
@@ -33,7 +31,7 @@ impl FarEnd {
             }
         };
         self.link.take(event);
-        self.step(step);
+        self.step(stepped);
     }
 
     // Policy gives what the request asks for, or is busy.
@@ -65,24 +63,24 @@ impl FarEnd {
 
     fn send(&mut self, policy: Policy, request: Request, objects: Objects) {
         let mut bytes = [0; ANSWER];
-        let step = answering::policy_answer(
+        let stepped = answering::policy_answer(
             self.dock,
             policy,
             request,
             objects.words(),
             &mut bytes,
         );
-        if step.refusal == 0 {
+        if let Ok(accepted) = stepped {
             let is_before_last = self.is_page_before_last(policy, request);
-            self.link.answer = Some(Answer::new(bytes, step.length, is_before_last));
+            self.link.answer = Some(Answer::new(bytes, accepted.length, is_before_last));
         }
-        self.step(step);
+        self.step(stepped);
     }
 
     // A given page that does not end the list.
     fn is_page_before_last(&self, policy: Policy, request: Request) -> bool {
         request.command == SVIDS
             && matches!(policy, Policy::Give)
-            && self.dock.page < self.dock.count / PER_PAGE
+            && usize::from(self.dock.page) < usize::from(self.dock.count) / PER_PAGE
     }
 }

@@ -1,15 +1,15 @@
 // What stays at the far end from event to event, and what the last event there led to.
 use crate::link::Link;
 use crate::objects::Objects;
-use dock::{Dock, Step};
-use messages::Edition;
+use dock::{Accepted, Dock};
+use messages::{Edition, Refusal};
 use pages::MOST_SVIDS;
 
 // The modes of each of the dock's SVIDs.
 pub type Modes = [Objects; MOST_SVIDS];
 
 // The dock with its highest edition, and the link to it. `lost` counts the confirmations lost in this gathering. The last two fields are of the last event:
-// the refusal number is that of the call that it made.
+// the outcome is that of the call that it made.
 #[derive(Clone, Copy)]
 pub struct FarEnd {
     pub dock: Dock,
@@ -18,7 +18,7 @@ pub struct FarEnd {
     pub link: Link,
     pub lost: u64,
     pub is_permitted: bool,
-    pub refusal: Option<u8>,
+    pub outcome: Option<Result<(), Refusal>>,
 }
 
 impl FarEnd {
@@ -31,14 +31,14 @@ impl FarEnd {
             link: Link::quiet(),
             lost: 0,
             is_permitted: true,
-            refusal: None,
+            outcome: None,
         }
     }
 
     // An event that is permitted, or not, and makes no call so far.
     pub fn permit(&mut self, is_permitted: bool) {
         self.is_permitted = is_permitted;
-        self.refusal = None;
+        self.outcome = None;
     }
 
     // One more confirmation is lost, or none.
@@ -46,9 +46,9 @@ impl FarEnd {
         self.lost = self.lost.wrapping_add(u64::from(is_lost));
     }
 
-    // What a call of the dock gave.
-    pub(crate) fn step(&mut self, step: Step) {
-        self.dock = step.dock;
-        self.refusal = Some(step.refusal);
+    // What a call of the dock gave, which stays as it was where it refuses.
+    pub(crate) fn step(&mut self, stepped: Result<Accepted, Refusal>) {
+        self.dock = stepped.map_or(self.dock, |accepted| accepted.dock);
+        self.outcome = Some(stepped.map(|_| ()));
     }
 }

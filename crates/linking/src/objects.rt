@@ -1,6 +1,6 @@
 // Objects behind a header, at most as many as a message has room for.
 use laptop::MODES_EACH;
-use messages::first_objects;
+use messages::first;
 use streams::finish::Stop;
 use streams::input::{fill_words, read_byte};
 
@@ -24,7 +24,7 @@ impl Objects {
     }
 
     pub fn words(&self) -> &[u32] {
-        first_objects(&self.words, self.count)
+        first(&self.words, self.count)
     }
 }
 

@@ -2,7 +2,7 @@
 use crate::far_end::{FarEnd, Modes};
 use crate::objects::{Objects, read_objects, read_some};
 use dock::Dock;
-use messages::{Named, edition_named};
+use messages::Edition;
 use pages::MOST_SVIDS;
 use streams::input::{fill_halves, fill_words, read_bytes};
 
@@ -18,8 +18,7 @@ fn read_dock() -> Option<Dock> {
     let identity = read_some(&mut identity, fill_words)?;
     let mut svids = [0; MOST_SVIDS];
     let svids = read_some(&mut svids, fill_halves)?;
-    let step = loading::load(dock::fresh(), identity, svids);
-    (step.refusal == 0).then_some(step.dock)
+    Some(loading::load(dock::fresh(), identity, svids).ok()?.dock)
 }
 
 // Of so many SVIDs. Each has a mode at least.
@@ -37,9 +36,7 @@ pub fn read_start() -> Option<Start> {
     let dock = read_dock()?;
     let modes = read_modes(dock.count)?;
     let [page, old, highest]: [u8; 3] = read_bytes().ok()?;
-    let Named::Edition(highest) = edition_named(highest) else {
-        return None;
-    };
+    let highest = Edition::try_from(highest).ok()?;
     if 1 < old {
         return None;
     }

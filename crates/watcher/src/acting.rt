@@ -1,19 +1,20 @@
 // What an event makes the laptop end do, and the line that it gets.
 use crate::BLOCK;
-use driving::fields::add_held;
-use driving::owning::Owner;
+use driving::fields::{add_held, add_outcome};
+use driving::owning::{Owner, outcome_of, sends};
 use events::Event;
+use messages::Refusal;
 use port::Side;
 use text::line::Line;
 
 // A request is one object.
 const OBJECT: usize = 4;
 
-// The event's side, the refusal number, and the header of the request where one is to be sent.
+// The event's side, what its call led to, and the header of the request where one is to be sent.
 #[derive(Clone, Copy)]
 pub struct Answer {
     side: Side,
-    refusal: u8,
+    outcome: Result<(), Refusal>,
     sent: Option<u32>,
 }
 
@@ -22,16 +23,16 @@ pub fn act(owner: &mut Owner, event: Event, body: &[u8]) -> Answer {
     match event {
         Event::Message(side, _) => Answer {
             side,
-            refusal: owner.hear(side, body).refusal,
+            outcome: outcome_of(owner.hear(side, body)),
             sent: None,
         },
         Event::Call(side, call) => {
             let mut request = [0; OBJECT];
-            let step = owner.make(side, call, &mut request);
+            let stepped = owner.make(side, call, &mut request);
             Answer {
                 side,
-                refusal: step.refusal,
-                sent: (step.length != 0).then_some(u32::from_le_bytes(request)),
+                outcome: outcome_of(stepped),
+                sent: sends(stepped).then_some(u32::from_le_bytes(request)),
             }
         }
     }
@@ -40,7 +41,7 @@ pub fn act(owner: &mut Owner, event: Event, body: &[u8]) -> Answer {
 pub fn add_answer(lines: &mut Line<BLOCK>, number: u64, answer: Answer, owner: &Owner) {
     let laptop = owner.laptop(answer.side);
     lines.decimal(number);
-    lines.field(answer.refusal);
+    add_outcome(lines, answer.outcome);
     match answer.sent {
         Some(header) => lines.spaced_word(header),
         None => lines.nothing(),

@@ -1,11 +1,19 @@
 // The link: the request under way, and the answer to the last request that reached the dock.
 use crate::Event;
+use messages::{Edition, Head, Refusal};
 use streams::input::first_bytes;
 
 // A request is one object, an answer at most seven.
 pub const REQUEST: usize = 4;
 
 pub const ANSWER: usize = 28;
+
+// The request of a head.
+pub(crate) fn written(edition: Edition, head: Head) -> Result<[u8; REQUEST], Refusal> {
+    let mut bytes = [0; REQUEST];
+    writing::write(edition, head, &[], &mut bytes)?;
+    Ok(bytes)
+}
 
 #[derive(Clone, Copy, PartialEq, Eq)]
 pub enum Place {

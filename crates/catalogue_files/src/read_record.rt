@@ -1,6 +1,7 @@
 // The record at an offset of a file.
 use crate::file::{Line, MOST_BYTES, add_numbers, at_most, begin_line};
-use records::{Found, Record, fault_of, record_from};
+use messages::Refusal;
+use records::{Missing, Record, Whole, record_from};
 use streams::finish::Stop;
 use streams::input::{fill, read_half};
 
@@ -23,14 +24,14 @@ fn add_record(line: &mut Line, record: Record) {
 }
 
 // A whole record has the offset behind it. It is no long one, and a sum that may wrap spares the proof of that.
-fn add_found(line: &mut Line, found: Found, offset: usize) {
+fn add_found(line: &mut Line, found: Result<Whole, Missing>, offset: usize) {
     match found {
-        Found::Whole(record, length) => {
-            add_record(line, record);
-            add_numbers(line, &[offset.wrapping_add(length)]);
+        Ok(whole) => {
+            add_record(line, whole.record);
+            add_numbers(line, &[offset.wrapping_add(whole.length)]);
         }
-        Found::Nothing => line.text(b" nothing"),
-        _ => line.field(fault_of(found)),
+        Err(Missing::Nothing) => line.text(b" nothing"),
+        Err(missing) => line.field(u8::from(Refusal::from(missing))),
     }
 }
 

@@ -1,5 +1,5 @@
 // The lines of a sound file.
-use records::{Found, Record, record_from};
+use records::{Record, Whole, record_from};
 use streams::finish::STDOUT;
 use text::line::Line;
 
@@ -25,7 +25,7 @@ pub fn print_svid(svid: u16, stretch: &[u8]) {
     let mut line: Line<LONGEST> = Line::new();
     line.half(svid);
     for bytes in stretch.chunks_exact(MODE_RECORD) {
-        if let Found::Whole(Record::Mode(word), _) = record_from(bytes, 0) {
+        if let Ok(Whole { record: Record::Mode(word), .. }) = record_from(bytes, 0) {
             line.spaced_word(word);
         }
     }

@@ -2,7 +2,7 @@
 use crate::printing::{print_identity, print_svid};
 use files::verdict::{print_counts, print_fault, print_refused};
 use laptop::RUN_WORDS;
-use messages::first_objects;
+use messages::first;
 use rebuilding::{Rebuilt, read_catalogue};
 use streams::input::bytes_from;
 use stretches::find_stretch;
@@ -28,7 +28,7 @@ fn show_all(
     identity: &[u32; MOST_OBJECTS],
     svids: &[u16; MOST_SVIDS],
 ) {
-    print_identity(first_objects(identity, rebuilt.extent));
+    print_identity(first(identity, rebuilt.extent));
     for svid in svids.iter().take(rebuilt.count) {
         show_svid(bytes, *svid);
     }

@@ -1,4 +1,5 @@
 // A stream of vectors or events on standard input: how many are answered, and how it ended.
+ghost use Rattle.std.specs.Prelude.{◌≤◌};
 
 // The number of standard output among the open files.
 pub const STDOUT: i32 = 1;
@@ -41,6 +42,7 @@ impl Finish {
 // Answers a stream, after so many answers to the streams before it. `answer` is given the number of each vector or event in its own stream.
 pub fn answer_each<F: FnMut(u64) -> Result<(), Stop>>(before: u64, mut answer: F) -> Finish
     requires { F.IsAlwaysCallable answer }
+    ensures { result.answered ≤ 1000000 }
 {
     for answered in before..MOST {
         if let Err(stop) = answer(answered - before + 1) {

@@ -1,4 +1,6 @@
 // Reading standard input, and the numbers that its bytes give, low byte first.
+ghost use Rattle.std.specs.Prelude.{◌≡◌, take, drop};
+
 use crate::finish::Stop;
 
 // The number of standard input among the open files.
@@ -34,12 +36,16 @@ pub fn read_byte() -> Option<u8> {
 }
 
 // The first bytes, or all where there are fewer: testing it spares the callers the proof.
-pub fn first_bytes(bytes: &[u8], count: usize) -> &[u8] {
+pub fn first_bytes(bytes: &[u8], count: usize) -> &[u8]
+    ensures { result.now ≡ take count bytes.now }
+{
     bytes.get(..count).unwrap_or(bytes)
 }
 
 // So many bytes from a place on, or as many as there are.
-pub fn bytes_from(bytes: &[u8], start: usize, count: usize) -> &[u8] {
+pub fn bytes_from(bytes: &[u8], start: usize, count: usize) -> &[u8]
+    ensures { result.now ≡ take count (drop start bytes.now) }
+{
     first_bytes(bytes.get(start..).unwrap_or(&[]), count)
 }
 

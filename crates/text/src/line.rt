@@ -48,6 +48,16 @@ impl<const N: usize> Line<N> {
         }
     }
 
+    // A line that starts with a number and a text.
+    pub fn numbered(number: u64, text: &[u8]) -> Self
+        ensures { result ≡ with_text N [] (decimal number ++ text.now) }
+    {
+        let mut line = Line::new();
+        line.decimal(number);
+        line.text(text);
+        line
+    }
+
     // What the line says so far.
     pub fn said(&self) -> &[u8]
         ensures { result.now ≡ self.now }

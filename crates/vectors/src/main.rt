@@ -7,9 +7,9 @@ mod write_vector;
 
 use streams::finish::{STDOUT, Stop, answer_each};
 use streams::input::read_byte;
-use text::line::Line;
+use text::line;
 
-// The kinds of vector.
+// The kinds of vector: each is met in one place, so an enum of them would only say them again.
 const READ: u8 = 1;
 
 const WRITE: u8 = 2;
@@ -18,13 +18,8 @@ const WRITE: u8 = 2;
 // a space, 255 bytes of two digits each and the line end.
 const LONGEST: usize = 529;
 
-// A line starts with the vector's number and what the vector asks.
-fn begin_line(number: u64, asked: &[u8]) -> Line<LONGEST> {
-    let mut line = Line::new();
-    line.decimal(number);
-    line.text(asked);
-    line
-}
+// It starts with the vector's number and what the vector asks.
+type Line = line::Line<LONGEST>;
 
 fn answer_next(number: u64) -> Result<(), Stop> {
     match read_byte().ok_or(Stop::Ended)? {

@@ -1,28 +1,26 @@
 // A read vector: the length of a message, then its bytes.
-use crate::{LONGEST, begin_line};
-use messages::{Edition, Head, ReadAs, Reading, edition_number, first_objects};
+use crate::Line;
+use messages::{Received, Refusal, first};
 use streams::finish::Stop;
 use streams::input::{GREATEST, fill, read_byte};
-use text::line::Line;
 
-fn add_head(line: &mut Line<LONGEST>, edition: Edition, head: Head) {
+fn add_received(line: &mut Line, received: Received) {
+    let head = received.head;
     line.byte(b'0');
-    line.edition(edition_number(edition));
+    line.edition(u8::from(received.edition));
     line.byte(b' ');
     line.half(head.svid);
     line.field(head.command);
     line.field(head.kind);
     line.field(head.position);
+    line.words(first(&received.objects, usize::from(received.count)));
 }
 
-fn print_answer(number: u64, reading: Reading) {
-    let mut line = begin_line(number, b" read ");
-    match reading.outcome {
-        ReadAs::Message(edition, head, count) => {
-            add_head(&mut line, edition, head);
-            line.words(first_objects(&reading.objects, usize::from(count)));
-        }
-        ReadAs::Refused(refusal) => line.decimal(u64::from(refusal)),
+fn print_answer(number: u64, answer: Result<Received, Refusal>) {
+    let mut line = Line::numbered(number, b" read ");
+    match answer {
+        Ok(received) => add_received(&mut line, received),
+        Err(refusal) => line.decimal(u64::from(u8::from(refusal))),
     }
     line.print_line();
 }

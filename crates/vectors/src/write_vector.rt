@@ -1,15 +1,18 @@
 // A write vector: what a header says, the number of an edition, the room for the output, the number of objects, then the objects.
-use crate::begin_line;
-use messages::Head;
+use crate::Line;
+use messages::{Head, Refusal};
 use streams::finish::Stop;
 use streams::input::{GREATEST, fill_words, read_bytes};
 
 // What the output holds before the call, so that a reader sees which bytes were left alone.
 const UNWRITTEN: u8 = 0x5A;
 
-fn print_answer(number: u64, refusal: u8, output: &[u8]) {
-    let mut line = begin_line(number, b" write ");
-    line.decimal(u64::from(refusal));
+fn print_answer(number: u64, answer: Result<(), Refusal>, output: &[u8]) {
+    let mut line = Line::numbered(number, b" write ");
+    line.decimal(match answer {
+        Ok(()) => 0,
+        Err(refusal) => u64::from(u8::from(refusal)),
+    });
     if !output.is_empty() {
         line.spaced_bytes(output);
     }
@@ -30,7 +33,7 @@ pub fn answer(number: u64) -> Result<(), Stop> {
     fill_words(objects)?;
     let mut buffer = [UNWRITTEN; GREATEST];
     let output = &mut buffer[..usize::from(room)];
-    let refusal = writing::write_numbered(edition, head, objects, output);
-    print_answer(number, refusal, output);
+    let answer = writing::write_numbered(edition, head, objects, output);
+    print_answer(number, answer, output);
     Ok(())
 }

@@ -1,5 +1,10 @@
 // What the laptop end's owner lends its calls.
-ghost use Rattle.std.specs.Prelude.{◌≤◌};
+ghost use Rattle.std.specs.Prelude.{◌≡◌, ◌≤◌, replicate};
+ghost use Rattle.laptop.specs.State.{LentMemory};
+ghost use Rattle.port.specs.Calls.{HearsOn};
+ghost use Rattle.port.specs.Sides.{fresh_port};
+ghost use Rattle.port.specs.Step.{stepped};
+ghost use Rattle.driving.specs.Lending.{memory_of, Made};
 
 use events::Call;
 use messages::Refusal;
@@ -11,24 +16,26 @@ pub const RUN: usize = 440;
 // What the calls for a side are lent; the names are those of the laptop's `Memory`. Of the runs so many words are lent.
 #[derive(Clone, Copy)]
 pub struct Memory {
-    svids: [u16; 72],
-    modes: [u8; 72],
-    identity: [u32; 6],
+    pub svids: [u16; 72],
+    pub modes: [u8; 72],
+    pub identity: [u32; 6],
     pub run: [u32; RUN],
-    held_svids: [u16; 72],
-    held_modes: [u8; 72],
-    held_identity: [u32; 6],
+    pub held_svids: [u16; 72],
+    pub held_modes: [u8; 72],
+    pub held_identity: [u32; 6],
     pub held_run: [u32; RUN],
-    entered: [u8; 72],
-    run_words: usize,
-    held_words: usize,
+    pub entered: [u8; 72],
+    pub run_words: usize,
+    pub held_words: usize,
     ghost run_within: { run_words ≤ 440 },
     ghost held_within: { held_words ≤ 440 },
 }
 
 impl Memory {
     // Runs that are full of a word.
-    fn new(word: u32) -> Memory {
+    fn new(word: u32) -> Memory
+        ensures { result.run ≡ replicate 440 word }
+    {
         Memory {
             svids: [0; 72],
             modes: [0; 72],
@@ -45,7 +52,9 @@ impl Memory {
     }
 
     // What a message gave. It may write to all that its side is lent.
-    pub fn hear(&mut self, port: Port, side: Side, bytes: &[u8]) -> Result<Accepted, Refused> {
+    fn hear(&mut self, port: Port, side: Side, bytes: &[u8]) -> Result<Accepted, Refused>
+        ensures { (m : LentMemory) × HearsOn side port bytes.now m (stepped result) }
+    {
         let run = &mut self.run[..];
         let held_run = &mut self.held_run[..];
         port::message(
@@ -65,13 +74,9 @@ impl Memory {
     }
 
     // What a call gave that is no message. A timer or the protocol error concerns the side that waits.
-    pub fn make(
-        &self,
-        port: Port,
-        side: Side,
-        call: Call,
-        out: &mut [u8],
-    ) -> Result<Accepted, Refused> {
+    fn make(&self, port: Port, side: Side, call: Call, out: &mut [u8]) -> Result<Accepted, Refused>
+        ensures { Made side port call self.now out.old (stepped result) out.new }
+    {
         let run = &self.run[..self.run_words];
         let held_run = &self.held_run[..self.held_words];
         match call {
@@ -110,12 +115,17 @@ impl Memory {
     }
 
     // How many modes of the SVID are entered.
-    pub fn report(&self, port: Port, side: Side, svid: u16) -> u32 {
+    pub(crate) fn report(&self, port: Port, side: Side, svid: u16) -> u32 {
         port::report(port, side, svid, &self.held_svids, &self.entered)
     }
 
     // Writes the catalogue that is held.
-    pub fn write_held(&self, port: Port, side: Side, out: &mut [u8]) -> Result<u16, Refusal> {
+    pub(crate) fn write_held(
+        &self,
+        port: Port,
+        side: Side,
+        out: &mut [u8],
+    ) -> Result<u16, Refusal> {
         write_catalogue(
             port,
             side,
@@ -128,7 +138,7 @@ impl Memory {
     }
 
     // Later calls are lent so many words of the runs.
-    pub fn lend(&mut self, run_words: usize, held_words: usize) {
+    pub(crate) fn lend(&mut self, run_words: usize, held_words: usize) {
         self.run_words = run_words.min(RUN);
         self.held_words = held_words.min(RUN);
     }
@@ -137,13 +147,16 @@ impl Memory {
 // What the calls for both sides are lent.
 #[derive(Clone, Copy)]
 pub struct Lent {
-    partner: Memory,
-    cable: Memory,
+    pub partner: Memory,
+    pub cable: Memory,
 }
 
 impl Lent {
     // Runs that are full of a word.
-    pub fn new(word: u32) -> Lent {
+    pub fn new(word: u32) -> Lent
+        ensures partner { result.partner.run ≡ replicate 440 word }
+        ensures cable { result.cable.run ≡ replicate 440 word }
+    {
         Lent {
             partner: Memory::new(word),
             cable: Memory::new(word),
@@ -151,21 +164,45 @@ impl Lent {
     }
 
     // A fresh port, and no entered modes.
-    pub fn begin(&mut self) -> Port {
+    pub fn begin(&mut self) -> Port
+        ensures { result ≡ fresh_port }
+    {
         port::fresh(&mut self.partner.entered, &mut self.cable.entered)
     }
 
-    pub fn to(&self, side: Side) -> &Memory {
+    pub(crate) fn to(&self, side: Side) -> &Memory
+        ensures { result.now ≡ memory_of side self.now }
+    {
         match side {
             Side::Partner => &self.partner,
             Side::Cable => &self.cable,
         }
     }
 
-    pub fn to_mut(&mut self, side: Side) -> &mut Memory {
+    pub(crate) fn to_mut(&mut self, side: Side) -> &mut Memory {
         match side {
             Side::Partner => &mut self.partner,
             Side::Cable => &mut self.cable,
         }
+    }
+
+    // A message from the side.
+    pub fn hear(&mut self, port: Port, side: Side, bytes: &[u8]) -> Result<Accepted, Refused>
+        ensures { (m : LentMemory) × HearsOn side port bytes.now m (stepped result) }
+    {
+        self.to_mut(side).hear(port, side, bytes)
+    }
+
+    // A call that is no message.
+    pub fn make(
+        &self,
+        port: Port,
+        side: Side,
+        call: Call,
+        out: &mut [u8],
+    ) -> Result<Accepted, Refused>
+        ensures { Made side port call (memory_of side self.now) out.old (stepped result) out.new }
+    {
+        self.to(side).make(port, side, call, out)
     }
 }

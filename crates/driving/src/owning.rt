@@ -1,4 +1,9 @@
 // The laptop end's owner as one value: the port, and what the calls for each side are lent.
+ghost use Rattle.std.specs.Prelude.{◌≡◌, not, ◌==◌};
+ghost use Rattle.messages.specs.Refusals.{number_in};
+ghost use Rattle.port.specs.Sides.{seen as Sides·seen};
+ghost use Rattle.port.specs.Step.{stepped};
+
 use crate::lending::{Lent, Memory};
 use events::Call;
 use laptop::Laptop;
@@ -12,20 +17,26 @@ pub struct Owner {
 }
 
 // Without what it handed over.
-pub fn outcome_of(stepped: Result<Accepted, Refused>) -> Result<(), Refusal> {
-    match stepped {
+pub fn outcome_of(given: Result<Accepted, Refused>) -> Result<(), Refusal>
+    ensures { number_in result ≡ (stepped given).refusal }
+{
+    match given {
         Ok(_) => Ok(()),
         Err(refused) => Err(refused.refusal),
     }
 }
 
 // Whether the bytes in the output buffer are to be sent.
-pub fn sends(stepped: Result<Accepted, Refused>) -> bool {
-    stepped.is_ok_and(|accepted| accepted.length != 0)
+pub fn sends(given: Result<Accepted, Refused>) -> bool
+    ensures { result ≡ not ((stepped given).length == 0) }
+{
+    given.is_ok_and(|accepted| accepted.length != 0)
 }
 
-pub fn port_after(stepped: Result<Accepted, Refused>) -> Port {
-    match stepped {
+pub fn port_after(given: Result<Accepted, Refused>) -> Port
+    ensures { result ≡ (stepped given).port }
+{
+    match given {
         Ok(accepted) => accepted.port,
         Err(refused) => refused.port,
     }
@@ -46,7 +57,9 @@ impl Owner {
     }
 
     // The laptop of document 01 on the side.
-    pub fn laptop(&self, side: Side) -> Laptop {
+    pub fn laptop(&self, side: Side) -> Laptop
+        ensures { result ≡ Sides·seen side self.now.port }
+    {
         seen(side, self.port)
     }
 
@@ -58,16 +71,16 @@ impl Owner {
     // A message from the side.
     pub fn hear(&mut self, side: Side, bytes: &[u8]) -> Result<Accepted, Refused> {
         let port = self.port;
-        let stepped = self.lent.to_mut(side).hear(port, side, bytes);
-        self.port = port_after(stepped);
-        stepped
+        let given = self.lent.hear(port, side, bytes);
+        self.port = port_after(given);
+        given
     }
 
     // A call that is no message changes nothing but the port.
     pub fn make(&mut self, side: Side, call: Call, out: &mut [u8]) -> Result<Accepted, Refused> {
-        let stepped = self.lent.to(side).make(self.port, side, call, out);
-        self.port = port_after(stepped);
-        stepped
+        let given = self.lent.make(self.port, side, call, out);
+        self.port = port_after(given);
+        given
     }
 
     // How many modes of the SVID are entered on the side.

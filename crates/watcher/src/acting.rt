@@ -24,8 +24,8 @@ pub struct Answer {
 pub fn act(port: Port, lent: &mut Lent, event: Event, body: &[u8]) -> Answer {
     let mut request = [0; OBJECT];
     let (side, stepped) = match event {
-        Event::Message(side, _) => (side, lent.to_mut(side).hear(port, side, body)),
-        Event::Call(side, call) => (side, lent.to(side).make(port, side, call, &mut request)),
+        Event::Message(side, _) => (side, lent.hear(port, side, body)),
+        Event::Call(side, call) => (side, lent.make(port, side, call, &mut request)),
     };
     Answer {
         side,

@@ -4,9 +4,8 @@
 mod acting;
 
 use acting::{act, add_answer};
-use driving::calls::stop_at;
 use driving::lending::Lent;
-use events::{LONGEST_EVENT, read_event};
+use events::{LONGEST_EVENT, Missing, read_event};
 use streams::block::Block;
 use streams::finish::{Finish, STDOUT, Stop, answer_each};
 use text::line::Line;
@@ -17,6 +16,15 @@ const BLOCK: usize = 16384;
 // The longest line: a number of seven digits, a refusal, eight digits of a header, a page count and a number of SVIDs of three digits each, a
 // space before each but the first, and the line end.
 const LONGEST_LINE: usize = 29;
+
+// How the input ends where no event is found in it.
+fn stop_at(missing: Missing) -> Stop {
+    match missing {
+        Missing::Unknown => Stop::Unknown,
+        Missing::Cut => Stop::Cut,
+        Missing::Nothing => Stop::Ended,
+    }
+}
 
 fn answer_all() -> Finish {
     let mut lent = Lent::new(0);

@@ -167,7 +167,9 @@ impl Lent {
     pub fn begin(&mut self) -> Port
         ensures { result ≡ fresh_port }
     {
-        port::fresh(&mut self.partner.entered, &mut self.cable.entered)
+        let partner = &mut self.partner;
+        let cable = &mut self.cable;
+        port::fresh(&mut partner.entered, &mut cable.entered)
     }
 
     pub(crate) fn to(&self, side: Side) -> &Memory

@@ -35,8 +35,8 @@ use Rattle.owner.specs.Owner.{owner_refusal, request_message}
 use Rattle.gathering.specs.Gathering.{Gathering, most_pages, unless_last, take_as, take_page, none_gathered, hear_svids}
 use Rattle.answers.specs.Answers.{Storing, store_modes, hear_modes}
 use Rattle.records.specs.Records.{found_number}
-use Rattle.records.specs.declared.Found.{Found}
-use Rattle.records.specs.declared.Found.TheVariants.{Whole, Unknown, Cut, Nothing}
+use Rattle.records.specs.Records.{Found}
+use Rattle.records.specs.Records.{Whole, Unknown, Cut, Nothing}
 use Rattle.judging.specs.Judging.{judgement_of}
 use Rattle.catalogue_laws.proofs.Given.{only_these}
 use Rattle.rebuilding.specs.Rebuilding.{read_as}

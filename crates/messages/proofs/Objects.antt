@@ -5,6 +5,7 @@ use Prim.Native.Nat.{ℕ, zero, suc, ◌+◌, ◌*◌, ◌/◌, ◌%◌, ◌^◌
 use native.Mathlib.Nat.{div-one, div-div-eq-div-mul, mod-eq_of_lt}
 use native.Mathlib.Omega.{arith}
 use lib.ListN.{length, get_or}
+use Rattle.std.specs.Int.{w32, from_le_bytes}
 use Rattle.laws.specs.Bounded.{Below}
 use Rattle.laws.proofs.Fields.{field}
 use Rattle.messages.specs.Layout.{bits, object_of, bytes_of_object, objects_of, bytes_of}
@@ -32,6 +33,10 @@ object_past (p ∷ q ∷ []) i h = refl
 object_past (p ∷ q ∷ r ∷ []) i h = refl
 object_past (p ∷ q ∷ r ∷ s ∷ rest) zero h = absurd (omega arith)
 object_past (p ∷ q ∷ r ∷ s ∷ rest) (suc i) h = object_past rest i (omega arith)
+
+-- the library's number is the layout's
+pub object_le : (p q r s : ℕ) → from_le_bytes w32 (p ∷ q ∷ r ∷ s ∷ []) ≡ object_of p q r s
+object_le p q r s = omega arith
 
 bytes_object : (w : ℕ) → w < 2 ^ 32 → object_of (bits 7 0 w) (bits 15 8 w) (bits 23 16 w) (bits 31 24 w) ≡ w
 bytes_object w h =

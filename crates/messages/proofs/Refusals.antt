@@ -13,10 +13,13 @@ use Rattle.laws.proofs.Padded.{padded_at}
 use Rattle.messages.specs.Layout.{bits, objects_of, structured, major, edition_said, head_of}
 use Rattle.messages.specs.Table.{shape}
 use Rattle.messages.specs.Reading.{wrong_length, header_lines, header_in, objects_in, read_refusal, message_in, edition_in, accepted, refused, outcome, read_outcome, shown}
-use Rattle.messages.specs.Reading.{ReadAsMessage}
+use Rattle.messages.specs.Reading.{as_shown}
+use Rattle.messages.specs.Refusals.{number_of}
 use Rattle.messages.specs.declared.Head.{Head}
-use Rattle.messages.specs.Reading.{Reading}
 use Rattle.messages.specs.declared.edition.Edition.{Edition}
+use Rattle.messages.specs.declared.refusal.Refusal.{Refusal}
+use Rattle.messages.specs.declared.refusal.Refusal.TheVariants.{WrongLength}
+use Rattle.std.specs.Prelude.{Ok, Err}
 use Rattle.messages.proofs.Objects.{length_objects}
 
 pub head_of_lem : (w s c k p : ℕ) → s ≡ bits 31 16 w → c ≡ bits 4 0 w → k ≡ bits 7 6 w → p ≡ bits 10 8 w →
@@ -88,24 +91,32 @@ pub refusal_header : (b : List ℕ) → wrong_length (length b) ≡ false → re
 unfolding read_refusal
 refusal_header b e = simp e
 
+-- a refusal has a number
+numbered : (refusal : Refusal) → number_of refusal ≡ 0 → ⊥
+numbered refusal e = grind arith
+
 -- what the code returns on each way out
-pub shown_1 : (b : List ℕ) → wrong_length (length b) ≡ true → shown (refused 1) ≡ shown (read_outcome b)
-shown_1 b e = ap shown (sym (read_refused b 1 (λ z. omega arith) (refusal_1 b e)))
+module _ (b : List ℕ) where
+  shown_as : (refusal : Refusal) → read_refusal b ≡ number_of refusal → as_shown (Err refusal) ≡ shown (read_outcome b)
+  unfolding shown
+  shown_as refusal e = rw (read_refused b (number_of refusal) (numbered refusal) e)
 
-module _ (b : List ℕ) (l : 4 ≤ length b) (m : length b ≤ 28) (e : length b % 4 ≡ 0)
-    (header number : ℕ) (eh : header ≡ header_in b) (en : number ≡ first_line 2 (header_lines header (length b / 4))) where
-  number_of : read_refusal b ≡ number
-  number_of =
-      refusal_header b (right_length (length b) l m e) ∙
-      ap (λ (w : ℕ). first_line 2 (header_lines w (length b / 4))) (sym eh) ∙ sym en
+  pub shown_length : wrong_length (length b) ≡ true → as_shown (Err WrongLength) ≡ shown (read_outcome b)
+  shown_length e = shown_as WrongLength (refusal_1 b e)
 
-  pub shown_number : (number ≡ 0 → ⊥) → shown (refused number) ≡ shown (read_outcome b)
-  shown_number h = ap shown (sym (read_refused b number h number_of))
+  module _ (right : wrong_length (length b) ≡ false) (header : ℕ) (is : header ≡ header_in b) where
+    line_of : read_refusal b ≡ first_line 2 (header_lines header (length b / 4))
+    line_of = refusal_header b right ∙ ap (λ (w : ℕ). first_line 2 (header_lines w (length b / 4))) (sym is)
 
-  pub shown_message : number ≡ 0 → (at : Edition) (h : Head) (o : List ℕ) → at ≡ edition_said header → h ≡ head_of header → o ≡ objects_in b →
-      ◌≡◌ {A = Reading} (record { outcome = ReadAsMessage at h (length b / 4 - 1); objects = o }) (shown (read_outcome b))
-  unfolding shown message_in edition_in
-  shown_message z at h o eat ehead eo =
-      let count : length (drop 1 (objects_of b)) ≡ length b / 4 - 1 = length-drop 1 (objects_of b) ∙ ap (λ (n : ℕ). n - 1) (length_objects b) in
-      let good : read_outcome b ≡ accepted (edition_in b) (message_in b) = read_accepted b (number_of ∙ z) in
-      rw (good, count, eat, ehead, eh, eo)
+    pub shown_refusal : (refusal : Refusal) → number_of refusal ≡ first_line 2 (header_lines header (length b / 4)) →
+        as_shown (Err refusal) ≡ shown (read_outcome b)
+    shown_refusal refusal e = shown_as refusal (line_of ∙ sym e)
+
+    pub shown_message : 0 ≡ first_line 2 (header_lines header (length b / 4)) → (e : Edition) (h : Head) (o : List ℕ) →
+        e ≡ edition_said header → h ≡ head_of header → o ≡ objects_in b →
+        as_shown (Ok (record { edition = e; head = h; count = length b / 4 - 1; objects = o })) ≡ shown (read_outcome b)
+    unfolding shown message_in edition_in
+    shown_message none e h o ee eh eo =
+        let count : length (drop 1 (objects_of b)) ≡ length b / 4 - 1 = length-drop 1 (objects_of b) ∙ ap (λ (n : ℕ). n - 1) (length_objects b) in
+        let good : read_outcome b ≡ accepted (edition_in b) (message_in b) = read_accepted b (line_of ∙ sym none) in
+        rw (good, count, ee, eh, is, eo)

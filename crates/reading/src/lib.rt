@@ -6,24 +6,21 @@ mod object;
 ghost use Rattle.std.specs.Prelude.{◌≡◌};
 ghost use Rattle.laws.specs.Lines.{first_line};
 ghost use Rattle.messages.specs.Layout.{head_of, edition_said};
-ghost use Rattle.messages.specs.Reading.{header_lines, objects_in, read_outcome, shown, read_number};
-ghost use Rattle.messages.specs.Reading.{refused as Outcome·refused};
+ghost use Rattle.messages.specs.Reading.{header_lines, objects_in, read_outcome, shown, as_shown};
+ghost use Rattle.messages.specs.Refusals.{number_in};
 
-use messages::{Edition, Head, ReadAs, Reading, shape};
+use messages::{Edition, Head, Received, Refusal, shape};
 pub use object::object_at;
+use std::array;
 
 fn head_of(header: u32) -> Head
     ensures { result ≡ head_of header }
 {
-    let svid = (header / 65536) as u16;
-    let command = (header % 32) as u8;
-    let kind = (header / 64 % 4) as u8;
-    let position = (header / 256 % 8) as u8;
     Head {
-        svid,
-        command,
-        kind,
-        position,
+        svid: (header / 65536) as u16,
+        command: (header % 32) as u8,
+        kind: (header / 64 % 4) as u8,
+        position: (header / 256 % 8) as u8,
     }
 }
 
@@ -40,25 +37,20 @@ fn edition_said(header: u32) -> Edition
     Edition::TwoOne
 }
 
-// Refusals 2, 3 and 5, by the header and the number of objects; 0 where there is none. Bit 5 is not looked at (02, R-2).
-fn header_refusal(header: u32, count: u8) -> u8
-    ensures { result ≡ first_line 2 (header_lines header count) }
+// Refusals 2, 3 and 5, by the header and the number of objects. Bit 5 is not looked at (02, R-2).
+fn header_check(header: u32, count: u8) -> Result<(), Refusal>
+    ensures { number_in result ≡ first_line 2 (header_lines header count) }
 {
     if header / 32768 % 2 == 0 {
-        return 2;
+        return Err(Refusal::Unstructured);
     }
     if 2 <= header / 8192 % 4 {
-        return 3;
+        return Err(Refusal::WrongMajor);
     }
-    if shape(head_of(header), count) { 0 } else { 5 }
-}
-
-fn refused(number: u8) -> Reading
-    ensures { result ≡ shown (Outcome·refused number) }
-{
-    Reading {
-        outcome: ReadAs::Refused(number),
-        objects: [0; 6],
+    if shape(head_of(header), count) {
+        Ok(())
+    } else {
+        Err(Refusal::WrongShape)
     }
 }
 
@@ -66,46 +58,22 @@ fn refused(number: u8) -> Reading
 fn objects_in(bytes: &[u8]) -> [u32; 6]
     ensures { result ≡ objects_in bytes.now }
 {
-    [
-        object_at(bytes, 1),
-        object_at(bytes, 2),
-        object_at(bytes, 3),
-        object_at(bytes, 4),
-        object_at(bytes, 5),
-        object_at(bytes, 6),
-    ]
+    array::from_fn(|i| object_at(bytes, i + 1))
 }
 
-pub fn read(bytes: &[u8]) -> Reading
-    ensures { result ≡ shown (read_outcome bytes.now) }
+pub fn read(bytes: &[u8]) -> Result<Received, Refusal>
+    ensures { as_shown result ≡ shown (read_outcome bytes.now) }
 {
     let n = bytes.len();
-    if n < 4 {
-        return refused(1);
-    }
-    if 28 < n {
-        return refused(1);
-    }
-    if n % 4 != 0 {
-        return refused(1);
+    if n < 4 || 28 < n || n % 4 != 0 {
+        return Err(Refusal::WrongLength);
     }
     let header = object_at(bytes, 0);
-    let number = header_refusal(header, (n / 4) as u8);
-    if number != 0 {
-        return refused(number);
-    }
-    Reading {
-        outcome: ReadAs::Message(edition_said(header), head_of(header), (n / 4 - 1) as u8),
+    header_check(header, (n / 4) as u8)?;
+    Ok(Received {
+        edition: edition_said(header),
+        head: head_of(header),
+        count: (n / 4 - 1) as u8,
         objects: objects_in(bytes),
-    }
-}
-
-// The refusal number of what was read, 0 for a message.
-pub fn number(outcome: ReadAs) -> u8
-    ensures { result ≡ read_number outcome }
-{
-    match outcome {
-        ReadAs::Message(_, _, _) => 0,
-        ReadAs::Refused(number) => number,
-    }
+    })
 }

@@ -14,7 +14,7 @@ use Rattle.laptop.specs.Catalogue.{Entry, Catalogue, run_words}
 use Rattle.catalogue.specs.Bytes.{end_kind, entries_bytes, catalogue_bytes}
 use Rattle.judging.specs.Judging.{Judgement, judgement_of, FileJudged}
 use Rattle.judging.specs.Walking.{walk_of}
-use Rattle.judging.specs.declared.Judged.{Judged}
+use Rattle.judging.specs.Judging.{Judged}
 use Rattle.judging.specs.declared.walk.Walk.{Walk}
 use Rattle.catalogue_laws.proofs.Judged.{number_is, walk_is}
 use Rattle.catalogue_laws.proofs.Limits.{accepted_within}

@@ -21,7 +21,7 @@ use Rattle.dock.specs.Dock.{reply, sending}
 use Rattle.dock.specs.Dock.{sends as dock_sends}
 use Rattle.dock.specs.Dock.{step_of as dock_step_of}
 use Rattle.dock.specs.declared.Dock.{Dock}
-use Rattle.dock.specs.declared.Step.{Step as DockAsStep}
+use Rattle.dock.specs.Step.{Step as DockAsStep}
 use Rattle.dock_laws.proofs.Given.{never_four as dock_never_four}
 use Rattle.laptop_laws.proofs.Given.{never_four as laptop_never_four}
 use Rattle.port_laws.proofs.Given.{never_four as port_never_four}

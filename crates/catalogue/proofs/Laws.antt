@@ -13,8 +13,7 @@ use Rattle.pages.specs.Lists.{most_svids}
 use Rattle.laptop.specs.Catalogue.{Entry, Catalogue, run_words, catalogue_in}
 use Rattle.std.specs.Prelude.{Option, Some, None}
 use Rattle.laptop.specs.declared.Size.{Size}
-use Rattle.catalogue.specs.Bytes.{svid_bytes, mode_bytes, modes_bytes, entry_bytes, entries_bytes, catalogue_bytes, least_objects, most_objects, most_bytes, Each, SixModes, Representable, HeldCatalogue, nothing, holding, held_catalogue, held_refusal, catalogue_refusal, held_bytes, written_bytes, written_into, CatalogueWritten}
-use Rattle.catalogue.specs.declared.Bytes.{Bytes}
+use Rattle.catalogue.specs.Bytes.{Bytes, svid_bytes, mode_bytes, modes_bytes, entry_bytes, entries_bytes, catalogue_bytes, least_objects, most_objects, most_bytes, Each, SixModes, Representable, HeldCatalogue, nothing, holding, held_catalogue, held_refusal, catalogue_refusal, held_bytes, written_bytes, written_into, CatalogueWritten}
 use Rattle.catalogue.proofs.Distinct.{catalogues_distinct}
 use Rattle.catalogue.proofs.Lengths.{entries_most, length_catalogue, length_entries, six_modes}
 use Rattle.catalogue.proofs.Outcomes.{size_few, size_taken}

@@ -5,15 +5,14 @@ use mathlib.Core.List.{List}
 use Prim.Native.Nat.{ℕ, ◌<◌, ◌≤◌}
 use native.Mathlib.Omega.{arith}
 use lib.Dec.{ltb}
-use lib.ListN.{length, take, length-take}
+use lib.ListN.{length, take}
 use lib.Seq.{sets}
 use borrow.Author.Tests.{ne_eqb, lt-ltb, le-ltb, ltb-false}
 use Rattle.laws.proofs.Stores.{sets_front}
 use Rattle.laptop.specs.Catalogue.{Catalogue, run_words}
 use Rattle.std.specs.Prelude.{Option, Some, None}
 use Rattle.laptop.specs.declared.Size.{Size}
-use Rattle.catalogue.specs.Bytes.{catalogue_bytes, catalogue_of, least_objects, HeldCatalogue, nothing, holding, held_catalogue, size_refusal, held_refusal, catalogue_refusal, held_bytes, written_bytes, written_into, CatalogueWritten}
-use Rattle.catalogue.specs.declared.Bytes.{Bytes}
+use Rattle.catalogue.specs.Bytes.{Bytes, catalogue_bytes, catalogue_of, least_objects, HeldCatalogue, nothing, holding, held_catalogue, size_refusal, held_refusal, catalogue_refusal, held_bytes, written_bytes, written_into, CatalogueWritten}
 
 module _ (extent bytes room : ℕ) where
   pub size_few : extent < least_objects → 12 ≡ size_refusal extent bytes room
@@ -72,10 +71,6 @@ module _ (held : HeldCatalogue) (words : ℕ) (out : List ℕ) where
         let fits : length (catalogue_bytes c) ≤ length out = omega (arith, all, (size_taken (length c.identity) n (length out) (sym none)).1) in
         let bytes : held_bytes held ≡ catalogue_bytes c = ap held_bytes h in
         record { result_is = simp (number, bytes, all); buffer_is = simp (number, bytes) (a ∙ sets_front out (catalogue_bytes c) fits) }
-
--- a part from the front is no longer than the whole
-pub part_most : (n : ℕ) (l part : List ℕ) (most : ℕ) → length l ≡ most → part ≡ take n l → length part ≤ most
-part_most n l part most size e = omega (arith, ap length e, length-take n l)
 
 module _ (held : Option Size) (identity svids modes run : List ℕ) where
   pub held_nothing : held ≡ None → held_catalogue held identity svids modes run ≡ nothing

@@ -7,7 +7,7 @@ use Rattle.messages.specs.declared.request.Request.{Request}
 use Rattle.dock.specs.Dock.{Decision, decide_policy_answer, step_of, buffer_of, Stepped}
 use Rattle.dock.specs.declared.Dock.{Dock}
 use Rattle.dock.specs.declared.Policy.{Policy}
-use Rattle.dock.specs.declared.Step.{Step}
+use Rattle.dock.specs.Step.{Step}
 use Rattle.controller.specs.Dock.{dock_numbers}
 use Rattle.controller.specs.DockCalls.{DockStep, dock_lent, DockSendsNothing, DockSends, load_step, DockLoads}
 use Rattle.laws.specs.Lent.{Lent, lent, left, accepted}

@@ -3,7 +3,7 @@ use mathlib.Core.Path.{◌≡◌, ap, sym, ◌∙◌}
 use mathlib.Core.List.{List}
 use Prim.Native.Nat.{ℕ}
 use denote.Ref.{MutBor}
-use Rattle.dock.specs.declared.Step.{Step}
+use Rattle.dock.specs.Step.{Step}
 use Rattle.port.specs.declared.Step.{Step as PortStep}
 use Rattle.controller.specs.DockCalls.{DockStep}
 use Rattle.controller.specs.LaptopCalls.{LaptopStep}

@@ -6,7 +6,7 @@ use Prim.Native.Nat.{ℕ}
 use lib.ListN.{length}
 use Rattle.dock.specs.Dock.{Decision as DockDecision}
 use Rattle.dock.specs.declared.Dock.{Dock}
-use Rattle.dock.specs.declared.Step.{Step as DockAsStep}
+use Rattle.dock.specs.Step.{Step as DockAsStep}
 use Rattle.dock.proofs.Laws.{refusal_leaves}
 use Rattle.laptop.specs.Calls.{Decision, step_of, unless, short_runs}
 use Rattle.laptop.specs.State.{Memory, LentMemory, memory}

@@ -2,7 +2,7 @@
 use Rattle.std.specs.Prelude.{◌≡◌, ℕ, List, length}
 use Rattle.dock.specs.Dock.{Decision, decide_load, step_of, buffer_of}
 use Rattle.dock.specs.declared.Dock.{Dock}
-use Rattle.dock.specs.declared.Step.{Step}
+use Rattle.dock.specs.Step.{Step}
 use Rattle.controller.specs.Dock.{dock_from, dock_numbers}
 use Rattle.laws.specs.Lent.{Lent, lent, left, accepted}
 

@@ -21,7 +21,7 @@ use Rattle.dock.specs.Dock.{reply, sending}
 use Rattle.dock.specs.Dock.{sends as dock_sends}
 use Rattle.dock.specs.Dock.{step_of as dock_step_of}
 use Rattle.dock.specs.declared.Dock.{Dock}
-use Rattle.dock.specs.declared.Step.{Step as DockAsStep}
+use Rattle.dock.specs.Step.{Step as DockAsStep}
 use Rattle.dock_laws.proofs.Given.{never_four as dock_never_four}
 use Rattle.laptop_laws.proofs.Given.{never_four as laptop_never_four}
 use Rattle.port_laws.proofs.Given.{never_four as port_never_four}
@@ -35,8 +35,8 @@ use Rattle.owner.specs.Owner.{owner_refusal, request_message}
 use Rattle.gathering.specs.Gathering.{Gathering, most_pages, unless_last, take_as, take_page, none_gathered, hear_svids}
 use Rattle.answers.specs.Answers.{Storing, store_modes, hear_modes}
 use Rattle.records.specs.Records.{found_number}
-use Rattle.records.specs.declared.Found.{Found}
-use Rattle.records.specs.declared.Found.TheVariants.{Whole, Unknown, Cut, Nothing}
+use Rattle.records.specs.Records.{Found}
+use Rattle.records.specs.Records.{Whole, Unknown, Cut, Nothing}
 use Rattle.judging.specs.Judging.{judgement_of}
 use Rattle.catalogue_laws.proofs.Given.{only_these}
 use Rattle.rebuilding.specs.Rebuilding.{read_as}

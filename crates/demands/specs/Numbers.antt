@@ -27,7 +27,7 @@ use Rattle.gathering.specs.Gathering.{hear_identity, hear_svids}
 use Rattle.answers.specs.Answers.{hear_modes, hear_mode}
 use Rattle.catalogue.specs.Bytes.{HeldCatalogue, catalogue_refusal}
 use Rattle.records.specs.Records.{found_number}
-use Rattle.records.specs.declared.Found.{Found}
+use Rattle.records.specs.Records.{Found}
 use Rattle.judging.specs.Judging.{judgement_of}
 use Rattle.rebuilding.specs.Rebuilding.{read_as}
 use Rattle.stretches.specs.Stretches.{stretch_in}

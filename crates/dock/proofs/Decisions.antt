@@ -13,7 +13,6 @@ use Rattle.messages.specs.Reading.{Outcome, accepted, refused}
 use Rattle.messages.specs.declared.Head.{Head}
 use Rattle.messages.specs.declared.edition.Edition.{Edition}
 use Rattle.pages.specs.Pages.{remaining, page, is_last}
-use Rattle.pages.specs.Lists.{sound_list}
 use Rattle.dock.specs.Data.{listed, good_identity, good_data, loaded, with_page, with_standing}
 use Rattle.dock.specs.Dock.{refuses, accepts, sends, decide_load, reply, asking, sending, decide_request, spoken_to, decide_message, is_empty, give_page, give_identity, give_modes, give_other, bare, declined, decide_policy, decide_policy_answer, moved, decide_sent, decide_failed}
 use Rattle.messages.specs.Requests.{attention_command, request_of, same_request}
@@ -33,22 +32,6 @@ load_standing d (Asking request) identity svids k = refl
 load_standing d (Sending is_page) identity svids k = refl
 
 module _ (identity svids : List ℕ) where
-  pub data_few : length identity < 3 → false ≡ good_data identity svids
-  unfolding good_data good_identity
-  data_few h = simp (lt-leb _ _ h)
-
-  pub data_many : 3 ≤ length identity → 6 < length identity → false ≡ good_data identity svids
-  unfolding good_data good_identity
-  data_many l h = simp (le-leb _ _ l, lt-leb _ _ h)
-
-  pub data_long : 3 ≤ length identity → length identity ≤ 6 → 72 < length svids → false ≡ good_data identity svids
-  unfolding good_data good_identity
-  data_long l m h = simp (le-leb _ _ l, le-leb _ _ m, lt-leb _ _ h)
-
-  pub data_sound : 3 ≤ length identity → length identity ≤ 6 → length svids ≤ 72 → sound_list svids ≡ good_data identity svids
-  unfolding good_data good_identity
-  data_sound l m h = simp (le-leb _ _ l, le-leb _ _ m, le-leb _ _ h)
-
   pub data_fits : good_data identity svids ≡ true → (length identity ≤ 6) × (length svids ≤ 72)
   unfolding good_data good_identity
   data_fits e =
@@ -110,6 +93,12 @@ module _ (d : Dock) (o : Outcome) where
     message_request k c = by_head ∙ rw (eq-eqb _ _ k, ne_eqb _ _ c)
 
 -- policy's answer
+pub same_itself : (r : Request) → same_request r r ≡ true
+same_itself r = grind arith
+
+not_same : (a r : Request) → (a ≡ r → ⊥) → same_request a r ≡ false
+not_same a r k = grind arith
+
 pub empty_none : (l : List ℕ) → length l ≡ 0 → is_empty l ≡ true
 empty_none [] h = refl
 empty_none (x ∷ l) h = absurd (omega arith)
@@ -187,22 +176,20 @@ module _ (d : Dock) (r : Request) where
       declined_bare h = let z : length objects ≡ 0 = omega arith in rw (empty_none objects z)
 
     module _ (policy : Policy) (s : Standing) where
-      module _ (a : Request) (e : s ≡ Asking a) where
-        pub answer_other : same_request a r ≡ false → decide_policy_answer d s policy r objects ≡ refuses 9
-        unfolding decide_policy_answer
-        answer_other n = ap (λ (x : Standing). decide_policy_answer d x policy r objects) e ∙ rw n
+      pub answer_policy : s ≡ Asking r → (p : Policy) → policy ≡ p → decide_policy_answer d s policy r objects ≡ decide_policy d p r objects
+      unfolding decide_policy_answer
+      answer_policy e p ep =
+          ap (λ (x : Standing). decide_policy_answer d x policy r objects) e ∙
+          rw (same_itself r) (ap (λ (x : Policy). decide_policy d x r objects) ep)
 
-        pub answer_policy : same_request a r ≡ true → (p : Policy) → policy ≡ p → decide_policy_answer d s policy r objects ≡ decide_policy d p r objects
-        unfolding decide_policy_answer
-        answer_policy y p ep =
-            ap (λ (x : Standing). decide_policy_answer d x policy r objects) e ∙ rw y (ap (λ (x : Policy). decide_policy d x r objects) ep)
-
-pub answer_standing : (d : Dock) (r : Request) (objects : List ℕ) (policy : Policy) (s : Standing) → ((a : Request) → s ≡ Asking a → ⊥) →
-    decide_policy_answer d s policy r objects ≡ refuses 9
-unfolding decide_policy_answer
-answer_standing d r objects policy Ready k = refl
-answer_standing d r objects policy (Asking a) k = absurd (k a refl)
-answer_standing d r objects policy (Sending is_page) k = refl
+      pub answer_other : (s ≡ Asking r → ⊥) → decide_policy_answer d s policy r objects ≡ refuses 9
+      unfolding decide_policy_answer
+      answer_other k = go s k
+        where
+          go : (x : Standing) → (x ≡ Asking r → ⊥) → decide_policy_answer d x policy r objects ≡ refuses 9
+          go Ready k = refl
+          go (Sending is_page) k = refl
+          go (Asking a) k = rw (not_same a r (λ (e : a ≡ r). k (ap Asking e))) refl
 
 -- "sent" and "failed"
 module _ (d : Dock) where

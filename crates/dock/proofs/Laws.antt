@@ -25,7 +25,7 @@ use Rattle.dock.specs.declared.Dock.{Dock}
 use Rattle.dock.specs.declared.Policy.{Policy}
 use Rattle.messages.specs.declared.edition.Edition.{Edition}
 use Rattle.messages.specs.declared.request.Request.{Request}
-use Rattle.dock.specs.declared.Step.{Step}
+use Rattle.dock.specs.Step.{Step}
 use Rattle.dock.proofs.Kept.{load_sound, message_sound, answer_sound, confirmed_sound, kept}
 
 -- a dock that meets 01's limits meets them after each call

@@ -15,7 +15,7 @@ use Rattle.dock.specs.declared.Policy.{Policy}
 use Rattle.dock.specs.declared.Policy.TheVariants.{Give, Nak, Busy}
 use Rattle.dock.specs.declared.Standing.{Standing}
 use Rattle.dock.specs.declared.Standing.TheVariants.{Ready, Asking, Sending}
-use Rattle.dock.specs.declared.Step.{Step}
+use Rattle.dock.specs.Step.{Step}
 
 -- what a call decides before the output buffer is looked at: a refusal; a new state with nothing to send; a message, and the state once it
 -- is handed over, whose edition is the message's

@@ -2,3 +2,4 @@
 pub mod Data
 pub mod Dock
 pub mod Sound
+pub mod Step

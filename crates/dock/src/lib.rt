@@ -6,11 +6,11 @@ mod replying;
 mod unloaded;
 
 use messages::{Edition, Request};
-pub use replying::{accepted, refused, send, send_bare, spoken_at, standing_at};
+pub use replying::{send, send_bare, spoken_at, standing_at};
 pub use unloaded::fresh;
 
 // Where the dock stands: asking policy for one request, or sending an answer (true: a page of its list).
-#[derive(Clone, Copy)]
+#[derive(Clone, Copy, PartialEq, Eq)]
 pub enum Standing {
     Ready,
     Asking(Request),
@@ -39,10 +39,9 @@ pub enum Policy {
     Busy,
 }
 
-// What a call gives back: the refusal number, how many bytes of the output buffer are to be sent, and the new state.
+// What a call that is accepted gives back: how many bytes of the output buffer are to be sent, and the new state. A refusal leaves the state as it is.
 #[derive(Clone, Copy)]
-pub struct Step {
-    pub refusal: u8,
+pub struct Accepted {
     pub length: u8,
     pub dock: Dock,
 }

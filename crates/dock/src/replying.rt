@@ -1,31 +1,12 @@
-// What every call is made of: a refusal, a new state, a message handed over.
+// What every call is made of: a new state, and a message handed over.
 ghost use Rattle.std.specs.Prelude.{◌≡◌, false, []};
 ghost use Rattle.dock.specs.Data.{with_standing, with_edition};
-ghost use Rattle.dock.specs.Dock.{sends, refused_by, accepted_by, reply, sending, Stepped};
+ghost use Rattle.dock.specs.Dock.{sends, reply, sending, Stepped};
+ghost use Rattle.dock.specs.Step.{stepped};
 
-use crate::{Dock, Standing, Step};
-use messages::{Edition, Request, head_for};
-
-// Nothing is sent, and the state stays.
-pub fn refused(number: u8, dock: Dock) -> Step
-    ensures { result ≡ refused_by number dock }
-{
-    Step {
-        refusal: number,
-        length: 0,
-        dock,
-    }
-}
-
-pub fn accepted(length: u8, dock: Dock) -> Step
-    ensures { result ≡ accepted_by length dock }
-{
-    Step {
-        refusal: 0,
-        length,
-        dock,
-    }
-}
+use crate::{Accepted, Dock, Standing};
+use messages::{Edition, Refusal, Request, head_for};
+use writing::write;
 
 pub fn standing_at(standing: Standing, dock: Dock) -> Dock
     ensures { result ≡ with_standing standing dock }
@@ -48,24 +29,25 @@ pub fn send(
     objects: &[u32],
     page: bool,
     out: &mut [u8],
-) -> Step
-    ensures { Stepped dock (sends (reply request kind objects.now) (sending page (with_edition edition dock))) out.old result out.new }
+) -> Result<Accepted, Refusal>
+    ensures { Stepped dock (sends (reply request kind objects.now) (sending page (with_edition edition dock))) out.old (stepped dock result) out.new }
 {
-    let number = writing::write(edition, head_for(request, kind), objects, out);
-    if number != 0 {
-        return refused(number, dock);
-    }
-    let length = (objects.len() * 4 + 4) as u8;
-    accepted(
-        length,
-        standing_at(Standing::Sending(page), spoken_at(edition, dock)),
-    )
+    write(edition, head_for(request, kind), objects, out)?;
+    Ok(Accepted {
+        length: (objects.len() * 4 + 4) as u8,
+        dock: standing_at(Standing::Sending(page), spoken_at(edition, dock)),
+    })
 }
 
 // An answer without objects.
-pub fn send_bare(dock: Dock, edition: Edition, request: Request, kind: u8, out: &mut [u8]) -> Step
-    ensures { Stepped dock (sends (reply request kind []) (sending false (with_edition edition dock))) out.old result out.new }
+pub fn send_bare(
+    dock: Dock,
+    edition: Edition,
+    request: Request,
+    kind: u8,
+    out: &mut [u8],
+) -> Result<Accepted, Refusal>
+    ensures { Stepped dock (sends (reply request kind []) (sending false (with_edition edition dock))) out.old (stepped dock result) out.new }
 {
-    let none = [0u32; 0];
-    send(dock, edition, request, kind, &none, false, out)
+    send(dock, edition, request, kind, &[], false, out)
 }

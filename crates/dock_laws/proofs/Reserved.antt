@@ -7,7 +7,7 @@ use Rattle.messages.specs.Reading.{Outcome}
 use Rattle.messages.proofs.Reserved.{reserved_ignored}
 use Rattle.dock.specs.Dock.{step_of, buffer_of, decide_message}
 use Rattle.dock.specs.declared.Dock.{Dock}
-use Rattle.dock.specs.declared.Step.{Step}
+use Rattle.dock.specs.Step.{Step}
 use Rattle.dock_laws.specs.Effects.{Call, load, message, policy_answer, sent, failed, decision, effect_of, dock_after}
 use Rattle.dock_laws.specs.Reserved.{reserved_clear, all_reserved_clear}
 

@@ -23,7 +23,7 @@ use Rattle.dock.specs.Data.{fresh_dock}
 use Rattle.dock.specs.Dock.{Decision, refuses, accepts, sends, refused_by, accepted_by, step_of, buffer_of, reply, sending, spoken_to}
 use Rattle.dock.specs.declared.Dock.{Dock}
 use Rattle.dock.specs.declared.Policy.{Policy}
-use Rattle.dock.specs.declared.Step.{Step}
+use Rattle.dock.specs.Step.{Step}
 use Rattle.dock_laws.specs.Editions.{Newest, none, request, newest_in, edition_by, AskedBy, handed_over, SentAt}
 use Rattle.dock_laws.specs.Effects.{Call, load, message, policy_answer, sent, failed, decision, room_for, effect_of, dock_after}
 use Rattle.dock_laws.specs.Given.{HasToSend}

@@ -12,7 +12,7 @@ use Rattle.dock.specs.Dock.{sends, refused_by, accepted_by, step_of, Stepped, re
 use Rattle.dock.specs.declared.Dock.{Dock}
 use Rattle.dock.specs.declared.Policy.{Policy}
 use Rattle.dock.specs.declared.Standing.{Standing}
-use Rattle.dock.specs.declared.Step.{Step}
+use Rattle.dock.specs.Step.{Step}
 use Rattle.dock.proofs.Laws.{step_only}
 
 pub fresh_only : (d other : Dock) → d ≡ fresh_dock → other ≡ fresh_dock → d ≡ other

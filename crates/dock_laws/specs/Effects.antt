@@ -7,7 +7,7 @@ use Rattle.dock.specs.Dock.{Decision, step_of, decide_load, decide_message, deci
 use Rattle.dock.specs.declared.Dock.{Dock}
 use Rattle.dock.specs.declared.Policy.{Policy}
 use Rattle.dock.specs.declared.Standing.TheVariants.{Ready}
-use Rattle.dock.specs.declared.Step.{Step}
+use Rattle.dock.specs.Step.{Step}
 
 -- identity objects and SVIDs to load; a message's bytes; policy's answer, the request that it names and the objects that it brings; "sent"; "failed"
 pub data Call : Type 0 where

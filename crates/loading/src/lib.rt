@@ -6,25 +6,17 @@ mod list;
 ghost use Rattle.std.specs.Prelude.{◌≡◌, ◌≤◌, length};
 ghost use Rattle.dock.specs.Data.{loaded, good_data};
 ghost use Rattle.dock.specs.Dock.{decide_load, step_of};
+ghost use Rattle.dock.specs.Step.{stepped};
 
-use dock::{Dock, Standing, Step, accepted, refused};
+use dock::{Accepted, Dock, Standing};
 use list::{objects_from, svids_from};
-use messages::Edition;
-use pages::MOST_SVIDS;
+use messages::{Edition, Refusal};
+use pages::{MOST_SVIDS, sound};
 
 fn good_data(identity: &[u32], svids: &[u16]) -> bool
     ensures { result ≡ good_data identity.now svids.now }
 {
-    if identity.len() < 3 {
-        return false;
-    }
-    if 6 < identity.len() {
-        return false;
-    }
-    if MOST_SVIDS < svids.len() {
-        return false;
-    }
-    pages::sound(svids)
+    3 <= identity.len() && identity.len() <= 6 && svids.len() <= MOST_SVIDS && sound(svids)
 }
 
 fn dock_of(edition: Edition, identity: &[u32], svids: &[u16]) -> Dock
@@ -43,16 +35,17 @@ fn dock_of(edition: Edition, identity: &[u32], svids: &[u16]) -> Dock
 }
 
 // Loads identity and list, and sets the page to 0; the edition stays. Refused 9 unless ready, then 10 for data that breaks its limits.
-pub fn load(dock: Dock, identity: &[u32], svids: &[u16]) -> Step
-    ensures { result ≡ step_of dock (decide_load dock dock.standing identity.now svids.now) 0 }
+pub fn load(dock: Dock, identity: &[u32], svids: &[u16]) -> Result<Accepted, Refusal>
+    ensures { stepped dock result ≡ step_of dock (decide_load dock dock.standing identity.now svids.now) 0 }
 {
-    let standing = dock.standing;
-    let Standing::Ready = standing else {
-        return refused(9, dock);
-    };
-    if good_data(identity, svids) {
-        let edition = dock.edition;
-        return accepted(0, dock_of(edition, identity, svids));
+    if dock.standing != Standing::Ready {
+        return Err(Refusal::NotNow);
     }
-    refused(10, dock)
+    if !good_data(identity, svids) {
+        return Err(Refusal::BadData);
+    }
+    Ok(Accepted {
+        length: 0,
+        dock: dock_of(dock.edition, identity, svids),
+    })
 }

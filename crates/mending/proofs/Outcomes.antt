@@ -13,7 +13,7 @@ use Rattle.laws.proofs.Stores.{sets_front}
 use Rattle.catalogue.specs.Bytes.{end_kind, written_into}
 use Rattle.judging.specs.Judging.{Judgement, judgement_of, FileJudged}
 use Rattle.judging.specs.Walking.{walk_of}
-use Rattle.judging.specs.declared.Judged.{Judged}
+use Rattle.judging.specs.Judging.{Judged}
 use Rattle.judging.specs.declared.walk.Walk.{Walk}
 use Rattle.catalogue_laws.proofs.Bounds.{bounds}
 use Rattle.catalogue_laws.proofs.Judged.{number_is, walk_is}

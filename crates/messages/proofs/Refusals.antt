@@ -92,7 +92,7 @@ unfolding read_refusal
 refusal_header b e = simp e
 
 -- a refusal has a number
-numbered : (refusal : Refusal) → number_of refusal ≡ 0 → ⊥
+pub numbered : (refusal : Refusal) → number_of refusal ≡ 0 → ⊥
 numbered refusal e = grind arith
 
 -- what the code returns on each way out

@@ -14,7 +14,7 @@ use Rattle.std.specs.Prelude.{Option}
 use Rattle.laptop.specs.declared.Size.{Size}
 use Rattle.hearing.specs.Hearing.{heard}
 use Rattle.catalogue.specs.Bytes.{held_catalogue, CatalogueWritten}
-use Rattle.catalogue.specs.declared.Bytes.{Bytes}
+use Rattle.catalogue.specs.Bytes.{Bytes}
 use Rattle.port.specs.Calls.{HearsOn, is_waiting, owners_refusal, owners_decision, Owners, waiting_side, concerning}
 use Rattle.port.specs.Sides.{own_of, own_in, seen, put_back, stepped_on, fresh_port}
 use Rattle.port.specs.declared.Own.{Own}

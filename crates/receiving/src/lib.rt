@@ -5,11 +5,11 @@ ghost use Rattle.std.specs.Prelude.{◌≡◌};
 ghost use Rattle.messages.specs.Reading.{read_outcome};
 ghost use Rattle.dock.specs.Dock.{asking, decide_request, decide_message, Stepped};
 ghost use Rattle.dock.specs.Data.{with_edition};
+ghost use Rattle.dock.specs.Step.{stepped};
 
-use dock::{Dock, Standing, Step, accepted, refused, send_bare, spoken_at, standing_at};
-use messages::{
-    ATTENTION, EXIT, Edition, IDENTITY, NAK, OURS, REQ, ReadAs, Request, lower, request_of,
-};
+use dock::{Accepted, Dock, Standing, send_bare, spoken_at, standing_at};
+use messages::{ATTENTION, EXIT, Edition, IDENTITY, NAK, OURS, REQ, Refusal, Request, lower};
+use reading::read;
 
 // Identity sets the page to 0 on receipt.
 fn asking_for(request: Request, dock: Dock) -> Dock
@@ -26,32 +26,36 @@ fn asking_for(request: Request, dock: Dock) -> Dock
 }
 
 // A request that is answered at the edition.
-fn receive(dock: Dock, edition: Edition, request: Request, out: &mut [u8]) -> Step
-    ensures { Stepped dock (decide_request (with_edition edition dock) request) out.old result out.new }
+fn receive(
+    dock: Dock,
+    edition: Edition,
+    request: Request,
+    out: &mut [u8],
+) -> Result<Accepted, Refusal>
+    ensures { Stepped dock (decide_request (with_edition edition dock) request) out.old (stepped dock result) out.new }
 {
-    if request.command < IDENTITY {
+    if request.command < IDENTITY || EXIT < request.command {
         return send_bare(dock, edition, request, NAK, out);
     }
-    if EXIT < request.command {
-        return send_bare(dock, edition, request, NAK, out);
-    }
-    accepted(0, asking_for(request, spoken_at(edition, dock)))
+    Ok(Accepted {
+        length: 0,
+        dock: asking_for(request, spoken_at(edition, dock)),
+    })
 }
 
 // A message from the laptop: refused 1 to 5, then 6, then 11. Its answer has the lower of its edition and ours.
-pub fn message(dock: Dock, bytes: &[u8], out: &mut [u8]) -> Step
-    ensures { Stepped dock (decide_message dock (read_outcome bytes.now)) out.old result out.new }
+pub fn message(dock: Dock, bytes: &[u8], out: &mut [u8]) -> Result<Accepted, Refusal>
+    ensures { Stepped dock (decide_message dock (read_outcome bytes.now)) out.old (stepped dock result) out.new }
 {
-    let reading = reading::read(bytes);
-    let outcome = reading.outcome;
-    let ReadAs::Message(edition, head, _) = outcome else {
-        return refused(reading::number(outcome), dock);
-    };
-    if head.kind != REQ {
-        return refused(6, dock);
+    let received = read(bytes)?;
+    let head = received.head;
+    if head.kind != REQ || head.command == ATTENTION {
+        return Err(Refusal::Unawaited);
     }
-    if head.command == ATTENTION {
-        return refused(6, dock);
-    }
-    receive(dock, lower(edition, OURS), request_of(head), out)
+    receive(
+        dock,
+        lower(received.edition, OURS),
+        Request::from(head),
+        out,
+    )
 }

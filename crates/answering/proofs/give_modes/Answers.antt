@@ -1,16 +1,18 @@
 -- `give_modes` meets its promise.
+use mathlib.Core.Path.{◌≡◌}
+use native.Mathlib.Omega.{arith}
+use Rattle.std.proofs.lemmas.Grind.{common_steps}
+use Rattle.messages.specs.declared.refusal.Refusal.TheVariants.{BadData}
+use Rattle.dock.specs.Dock.{give_modes, refuses}
 use Rattle.dock.proofs.Decisions.{modes_few, modes_many, modes_given}
 use Rattle.dock.proofs.Steps.{refuse, same}
 use Rattle.answering.proofs.give_modes.Goals as goal
 
-pub returns-then-objects-lt1 : goal.returns-then-objects-lt1
-returns-then-objects-lt1 c = let a = c.args in
-    refuse a.dock _ 10 a.out.now _ (modes_few a.dock a.request a.objects.now c.if-objects-lt1.true) c.refused.ensures
-
-pub returns-then-objects-gt6 : goal.returns-then-objects-gt6
-returns-then-objects-gt6 c = let a = c.args in
-    refuse a.dock _ 10 a.out.now _ (modes_many a.dock a.request a.objects.now c.if-objects-lt1.false c.if-objects-gt6.true) c.refused-then-objects-gt6.ensures
+pub returns-then-is_empty : goal.returns-then-is_empty
+returns-then-is_empty c = let a = c.args in
+    let bad : give_modes a.dock a.request a.objects.now ≡ refuses 10 = grind (arith, common_steps, modes_few, modes_many) in
+    refuse a.dock _ a.out.now BadData bad
 
 pub returns : goal.returns
 returns c = let a = c.args in
-    same a.dock _ _ a.out.now _ _ (modes_given a.dock a.request a.objects.now c.if-objects-lt1.false c.if-objects-gt6.false) c.send.ensures
+    same a.dock _ _ a.out.now _ _ (modes_given a.dock a.request a.objects.now (grind (arith, common_steps)) (omega arith)) c.send.ensures

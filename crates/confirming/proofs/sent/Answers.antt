@@ -1,15 +1,12 @@
 -- `sent` meets its promise.
-use mathlib.Core.Path.{ap, ◌∙◌}
 use mathlib.Core.List.{[]}
-use Rattle.dock.specs.Dock.{accepted_by}
+use Rattle.messages.specs.declared.refusal.Refusal.TheVariants.{NotNow}
 use Rattle.dock.proofs.Decisions.{sent_standing, sent_moves}
 use Rattle.dock.proofs.Steps.{refuse, accept}
 use Rattle.confirming.proofs.sent.Goals as goal
 
 pub returns-in_default : goal.returns-in_default
-returns-in_default c = let d = c.args.dock in
-    (refuse d _ 9 [] _ (sent_standing d d.standing c.in_default.not-Sending) c.refused.ensures).step_is
+returns-in_default c = let d = c.args.dock in (refuse d _ [] NotNow (sent_standing d d.standing c.in_default.not-Sending)).step_is
 
 pub returns : goal.returns
-returns c = let d = c.args.dock in
-    (accept d _ _ [] _ (sent_moves d d.standing _ c.in-Sending.is) (c.accepted.ensures ∙ ap (accepted_by 0) c.move_on.ensures)).step_is
+returns c = let d = c.args.dock in (accept d _ [] _ _ (sent_moves d d.standing _ c.in-Sending.is) c.move_on.ensures).step_is

@@ -1,28 +1,29 @@
 -- `load` meets its promise.
-use mathlib.Core.List.{[]}
 use Rattle.dock.specs.Data.{loaded}
+use mathlib.Core.List.{[]}
 use Rattle.dock.proofs.Decisions.{data_fits}
 use Rattle.dock.proofs.Steps.{refuse, accept}
-use mathlib.Core.Path.{ap, sym, ◌∙◌}
-use Rattle.dock.specs.Dock.{accepted_by}
+use mathlib.Core.Path.{◌≡◌, sym, ◌∙◌}
+use Rattle.std.proofs.Common.{rules}
+use Rattle.messages.specs.declared.refusal.Refusal.TheVariants.{NotNow, BadData}
+use Rattle.dock.specs.declared.Standing.TheVariants.{Ready}
 use Rattle.dock.proofs.Decisions.{load_standing, load_good, load_bad}
 use Rattle.loading.proofs.load.Goals as goal
 
-pub returns-in_default : goal.returns-in_default
-returns-in_default c = let a = c.args in
-    (refuse a.dock _ 9 [] _ (load_standing a.dock a.dock.standing a.identity.now a.svids.now c.in_default.not-Ready) c.refused.ensures).step_is
+pub returns-then-ne : goal.returns-then-ne
+returns-then-ne c = let a = c.args in
+    (refuse a.dock _ [] NotNow (load_standing a.dock a.dock.standing a.identity.now a.svids.now (search rules))).step_is
+
+pub returns-then-not-good_data : goal.returns-then-not-good_data
+returns-then-not-good_data c = let a = c.args in
+    let ready : a.dock.standing ≡ Ready = search rules in
+    (refuse a.dock _ [] BadData (load_bad a.identity.now a.svids.now a.dock a.dock.standing ready (sym c.good_data.ensures ∙ c.if-not-good_data.true))).step_is
 
 pub dock_of-requires : goal.dock_of-requires
-dock_of-requires c = data_fits _ _ (sym c.good_data.ensures ∙ c.if-good_data.true)
-
-pub returns-then-good_data : goal.returns-then-good_data
-returns-then-good_data c = let a = c.args in
-    (accept a.dock (loaded a.dock.edition a.identity.now a.svids.now) _ [] _
-    (load_good a.identity.now a.svids.now a.dock a.dock.standing c.in-Ready.is (sym c.good_data.ensures ∙ c.if-good_data.true))
-    (c.accepted.ensures ∙ ap (accepted_by 0) c.dock_of.ensures)).step_is
+dock_of-requires c = data_fits _ _ (sym c.good_data.ensures ∙ c.if-not-good_data.false)
 
 pub returns : goal.returns
 returns c = let a = c.args in
-    (refuse a.dock _ 10 [] _
-    (load_bad a.identity.now a.svids.now a.dock a.dock.standing c.in-Ready.is (sym c.good_data.ensures ∙ c.if-good_data.false))
-    c.refused-2.ensures).step_is
+    let ready : a.dock.standing ≡ Ready = search rules in
+    (accept a.dock _ [] (loaded a.dock.edition a.identity.now a.svids.now) _
+    (load_good a.identity.now a.svids.now a.dock a.dock.standing ready (sym c.good_data.ensures ∙ c.if-not-good_data.false)) c.dock_of.ensures).step_is

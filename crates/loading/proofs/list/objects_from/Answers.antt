@@ -1,7 +1,8 @@
 -- `objects_from` meets its promise.
-use Rattle.loading.proofs.Lists.{objects_six}
+use native.Mathlib.Omega.{arith}
+use Rattle.std.proofs.lemmas.Grind.{common_steps}
+use Rattle.laws.proofs.Padded.{padded_at}
 use Rattle.loading.proofs.list.objects_from.Goals as goal
 
 pub returns : goal.returns
-returns c = objects_six c.args.objects.now _ _ _ _ _ _ c.object_or_zero.ensures c.object_or_zero-2.ensures c.object_or_zero-3.ensures
-    c.object_or_zero-4.ensures c.object_or_zero-5.ensures c.object_or_zero-6.ensures
+returns c = grind (arith, common_steps, padded_at c.args.objects.now)

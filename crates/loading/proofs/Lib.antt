@@ -1,2 +1,0 @@
--- Laws on filling an array.
-mod Lists

@@ -37,7 +37,9 @@ fn gather(
         objects,
     } = received;
     if head.command == IDENTITY {
-        return hear_identity(laptop, *edition, head.kind, *count, objects, svids, identity);
+        return hear_identity(
+            laptop, *edition, head.kind, *count, objects, svids, identity,
+        );
     }
     if head.command == SVIDS {
         return hear_svids(laptop, head.kind, *count, objects, svids);

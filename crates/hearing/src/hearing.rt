@@ -6,7 +6,9 @@ ghost use Rattle.laptop.specs.State.{memory_lent};
 ghost use Rattle.laptop.specs.Step.{stepped};
 
 use crate::awaited::hear_answer;
-use laptop::{Accepted, Candidate, Laptop, Notice, Refused, Told, accept, dropped, refuse, short_runs};
+use laptop::{
+    Accepted, Candidate, Laptop, Notice, Refused, Told, accept, dropped, refuse, short_runs,
+};
 use messages::{ACK, ATTENTION, Head, REQ, Refusal, Request, SVIDS};
 
 fn notice_of(head: Head, count: u8, object: u32) -> Notice
@@ -43,7 +45,10 @@ fn fits(wait: Option<Request>, head: Head) -> bool
 fn is_late_page(laptop: Laptop, head: Head) -> bool
     ensures { result ≡ is_late_page laptop head }
 {
-    laptop.wait.is_none() && laptop.candidate == Candidate::Open && head.command == SVIDS && head.kind == ACK
+    laptop.wait.is_none()
+        && laptop.candidate == Candidate::Open
+        && head.command == SVIDS
+        && head.kind == ACK
 }
 
 // An answer that is not awaited is 6; a late page drops an open list.

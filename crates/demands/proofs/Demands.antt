@@ -86,7 +86,7 @@ use Rattle.catalogue_laws.proofs.ReadWrite.{read_write}
 use Rattle.catalogue_laws.proofs.Words.{wrong_exactly}
 use Rattle.catalogue_laws.proofs.WriteRead.{write_read as catalogue_write_read}
 use Rattle.rebuilding.specs.Rebuilding.{Arrays, CatalogueRead}
-use Rattle.rebuilding.specs.declared.Rebuilt.{Rebuilt}
+use Rattle.rebuilding.specs.Rebuilding.{Rebuilt}
 use Rattle.rebuilding.proofs.Holding.{read_holds}
 use Rattle.rebuilding.proofs.Laws.{refused_leaves as reading_refused_leaves}
 use Rattle.stretches.specs.Stretches.{stretch_in}

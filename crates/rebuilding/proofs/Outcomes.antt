@@ -22,7 +22,7 @@ use Rattle.catalogue_laws.proofs.Reading.{objects_again}
 use Rattle.catalogue_laws.proofs.WriteRead.{write_read}
 use Rattle.rebuilding.specs.Putting.{Standing}
 use Rattle.rebuilding.specs.Rebuilding.{Arrays, modes_into, rebuilt, short_run, refused_at, read_as, read_into, CatalogueRead}
-use Rattle.rebuilding.specs.declared.Rebuilt.{Rebuilt}
+use Rattle.rebuilding.specs.Rebuilding.{Rebuilt}
 
 -- a catalogue's bytes, behind the kind of its identity and behind its objects
 behind_kind : (c : Catalogue) → drop 1 (catalogue_bytes c) ≡ bytes_of c.identity ++ (entries_bytes c.entries ++ end_kind ∷ [])

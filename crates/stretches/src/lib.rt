@@ -26,7 +26,8 @@ fn place_in(svid: u16, walk: Walk, svids: &[u16; 72], numbers: &[u8; 72]) -> Res
     let mut at = 1 + walk.extent * OBJECT_BYTES;
     for i in 0..walk.count {
         let modes_at = at + SVID_RECORD;
-        let length = usize::from(numbers[i]) * MODE_RECORD;
+        let number = usize::from(numbers[i]);
+        let length = number * MODE_RECORD;
         if svids[i] == svid {
             return Ok(Place {
                 at: modes_at,

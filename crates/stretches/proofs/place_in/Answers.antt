@@ -7,14 +7,14 @@ use Rattle.stretches.proofs.place_in.Goals as goal
 pub returns-then-svids-i : goal.returns-then-svids-i
 returns-then-svids-i c =
     λ entries noted_as.
-    sym (place_found noted_as c.requires.1 c.loop-i.i c.loop-i-test.true c.args.svid c.loop-i.at _ c.from-length.ensures c.if-svids-i.true) ∙
+    sym (place_found noted_as c.requires.1 c.loop-i.i c.loop-i-test.true c.args.svid c.loop-i.at _ c.from-number.ensures c.if-svids-i.true) ∙
     c.loop-i.invariant.1 entries noted_as
 
 pub loop-i-preserved : goal.loop-i-preserved
 loop-i-preserved c = (
-  omega (arith, c.loop-i.invariant.0, c.from-length.ensures, c.fits-numbers c.loop-i.i),
+  omega (arith, c.loop-i.invariant.0, c.from-number.ensures, c.fits-numbers c.loop-i.i),
   λ entries noted_as.
-      sym (place_further noted_as c.requires.1 c.loop-i.i c.loop-i-test.true c.args.svid c.loop-i.at _ c.from-length.ensures c.if-svids-i.false) ∙
+      sym (place_further noted_as c.requires.1 c.loop-i.i c.loop-i-test.true c.args.svid c.loop-i.at _ c.from-number.ensures c.if-svids-i.false) ∙
       c.loop-i.invariant.1 entries noted_as,
 )
 

@@ -70,7 +70,7 @@ use Rattle.dock_laws.proofs.Reserved.{dock_same}
 use Rattle.dock_laws.proofs.SentAt.{sent_at as dock_sent_at}
 use Rattle.dock_laws.proofs.SentAt.{answered_at, nak_at}
 use Rattle.catalogue.specs.Bytes.{end_kind, catalogue_bytes, written_into, HeldCatalogue, holding, held_catalogue, CatalogueWritten}
-use Rattle.catalogue.specs.declared.Bytes.{Bytes}
+use Rattle.catalogue.specs.Bytes.{Bytes}
 use Rattle.catalogue.proofs.Laws.{refused_leaves}
 use Rattle.laptop.specs.Catalogue.{Catalogue, catalogue_in}
 use Rattle.records.specs.declared.Record.{Record}

@@ -16,7 +16,7 @@ use Rattle.laptop_laws.specs.Effects.{Call, Kept, kept_after}
 use Rattle.laptop_laws.specs.WellFormed.{Lent, Listed, HeldFits, WellFormed}
 use Rattle.laptop_laws.proofs.Laws.{fresh, keeps_all}
 use Rattle.catalogue.specs.Bytes.{catalogue_bytes, most_objects, Each, EntryFits, holding, held_catalogue, written_bytes, written_into, CatalogueWritten}
-use Rattle.catalogue.specs.declared.Bytes.{Bytes}
+use Rattle.catalogue.specs.Bytes.{Bytes}
 use Rattle.catalogue.proofs.Laws.{accepted_bytes}
 use Rattle.catalogue.proofs.Lengths.{length_entries}
 use Rattle.catalogue.proofs.Places.{modes_most}

@@ -93,8 +93,8 @@ use Rattle.stretches.proofs.Laws.{not_listed_exactly}
 use Rattle.mending.specs.Beginning.{BeginningOf}
 use Rattle.mending.specs.Mending.{kept_of, kept_bytes, mend_refusal, report_of, mending_of}
 use Rattle.mending.specs.Words.{AtFront}
-use Rattle.mending.specs.declared.Mended.TheVariants.{Refused as MendedRefused}
-use Rattle.mending.specs.declared.Mended.TheVariants.{Sound as MendedSound}
+use Rattle.mending.specs.Mending.{Refused as MendedRefused}
+use Rattle.mending.specs.Mending.{Sound as MendedSound}
 use Rattle.mending.specs.declared.keeping.Kept.{Kept as MendingKept}
 use Rattle.mending.proofs.Cutting.{cut_begins, nothing_behind}
 use Rattle.mending.proofs.Front.{kept_before, kept_front}

@@ -9,7 +9,7 @@ use Rattle.laptop.specs.Catalogue.{modes_each, held_list}
 use Rattle.laptop.specs.Marks.{marks_after}
 use Rattle.laptop.specs.State.{ended, dropped, stored_to}
 use Rattle.laptop.specs.declared.Laptop.{Laptop}
-use Rattle.laptop.specs.declared.Step.{Step}
+use Rattle.laptop.specs.Step.{Step}
 use Rattle.laptop.specs.declared.Told.{Told}
 use Rattle.laptop.specs.declared.Told.TheVariants.{Nothing, Nak, Busy}
 

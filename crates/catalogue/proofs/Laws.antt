@@ -11,11 +11,9 @@ use borrow.Author.Tests.{eq-eqb, ne_eqb, le-ltb}
 use Rattle.messages.specs.Layout.{bytes_of_object, bytes_of}
 use Rattle.pages.specs.Lists.{most_svids}
 use Rattle.laptop.specs.Catalogue.{Entry, Catalogue, run_words, catalogue_in}
-use Rattle.laptop.specs.declared.Held.{Held}
-use Rattle.laptop.specs.declared.Held.TheVariants.{Catalogue as HeldAsCatalogue}
-use Rattle.laptop.specs.declared.Held.TheVariants.{Nothing as HeldNothing}
-use Rattle.catalogue.specs.Bytes.{svid_bytes, mode_bytes, modes_bytes, entry_bytes, entries_bytes, catalogue_bytes, least_objects, most_objects, most_bytes, Each, SixModes, Representable, HeldCatalogue, nothing, holding, held_catalogue, held_refusal, catalogue_refusal, held_bytes, written_bytes, written_into, CatalogueWritten}
-use Rattle.catalogue.specs.declared.Bytes.{Bytes}
+use Rattle.std.specs.Prelude.{Option, Some, None}
+use Rattle.laptop.specs.declared.Size.{Size}
+use Rattle.catalogue.specs.Bytes.{Bytes, svid_bytes, mode_bytes, modes_bytes, entry_bytes, entries_bytes, catalogue_bytes, least_objects, most_objects, most_bytes, Each, SixModes, Representable, HeldCatalogue, nothing, holding, held_catalogue, held_refusal, catalogue_refusal, held_bytes, written_bytes, written_into, CatalogueWritten}
 use Rattle.catalogue.proofs.Distinct.{catalogues_distinct}
 use Rattle.catalogue.proofs.Lengths.{entries_most, length_catalogue, length_entries, six_modes}
 use Rattle.catalogue.proofs.Outcomes.{size_few, size_taken}
@@ -26,17 +24,17 @@ pub bytes_most : (c : Catalogue) → length c.identity ≤ most_objects → leng
 bytes_most c few most six = omega (arith, length_catalogue c, entries_most c.entries six)
 
 -- so many bytes are written at most, whatever the state of the laptop
-held_most : (held : Held) (identity svids modes run : List ℕ) → length identity ≡ most_objects → length svids ≡ most_svids →
+held_most : (held : Option Size) (identity svids modes run : List ℕ) → length identity ≡ most_objects → length svids ≡ most_svids →
     length (held_bytes (held_catalogue held identity svids modes run)) ≤ most_bytes
 unfolding held_bytes
-held_most HeldNothing identity svids modes run ei es = omega arith
-held_most (HeldAsCatalogue size) identity svids modes run ei es =
+held_most None identity svids modes run ei es = omega arith
+held_most (Some size) identity svids modes run ei es =
     bytes_most (catalogue_in size identity svids modes run)
     (omega (arith, length-take size.extent identity))
     (omega (arith, length_entries modes run 0 (take size.count svids), length-take size.count svids))
     (six_modes modes run 0 (take size.count svids))
 
-pub written_most : (held : Held) (identity svids modes run : List ℕ) → length identity ≡ most_objects → length svids ≡ most_svids →
+pub written_most : (held : Option Size) (identity svids modes run : List ℕ) → length identity ≡ most_objects → length svids ≡ most_svids →
     (out : List ℕ) (result : Bytes) (after : List ℕ) →
     CatalogueWritten (held_catalogue held identity svids modes run) (length run) out result after → result.length ≤ most_bytes
 unfolding written_bytes
@@ -86,13 +84,13 @@ refused_leaves held words out result after w no_acceptance =
     (ap (λ (b : Bytes). b.length) w.result_is ∙ ap length none, w.buffer_is ∙ ap (written_into out) none)
 
 -- whatever is written begins with the kind of an identity, 0x03 to 0x06, for every state of the laptop and all that it is lent
-pub written_kind : (held : Held) (identity svids modes run : List ℕ) → length identity ≡ most_objects → (out : List ℕ) (result : Bytes) (after : List ℕ) →
+pub written_kind : (held : Option Size) (identity svids modes run : List ℕ) → length identity ≡ most_objects → (out : List ℕ) (result : Bytes) (after : List ℕ) →
     CatalogueWritten (held_catalogue held identity svids modes run) (length run) out result after → result.refusal ≡ 0 →
     (least_objects ≤ get_or after 0 0) × (get_or after 0 0 ≤ most_objects)
 unfolding catalogue_bytes held_refusal written_into
-written_kind HeldNothing identity svids modes run ei out result after w z =
+written_kind None identity svids modes run ei out result after w z =
     absurd (let none : ◌≡◌ {A = ℕ} 12 0 = accepted_held nothing (length run) (length out) (sym (ap (λ (b : Bytes). b.refusal) w.result_is) ∙ z) in omega arith)
-written_kind (HeldAsCatalogue size) identity svids modes run ei out result after w z =
+written_kind (Some size) identity svids modes run ei out result after w z =
     let c : Catalogue = catalogue_in size identity svids modes run in
     let first : get_or after 0 0 ≡ length c.identity =
     ap (λ (l : List ℕ). get_or l 0 0) (w.buffer_is ∙ ap (written_into out) (accepted_whole c (length run) out result after w z)) in

@@ -5,17 +5,14 @@ use mathlib.Core.List.{List}
 use Prim.Native.Nat.{ℕ, ◌<◌, ◌≤◌}
 use native.Mathlib.Omega.{arith}
 use lib.Dec.{ltb}
-use lib.ListN.{length, take, length-take}
+use lib.ListN.{length, take}
 use lib.Seq.{sets}
 use borrow.Author.Tests.{ne_eqb, lt-ltb, le-ltb, ltb-false}
 use Rattle.laws.proofs.Stores.{sets_front}
 use Rattle.laptop.specs.Catalogue.{Catalogue, run_words}
-use Rattle.laptop.specs.declared.Held.{Held}
-use Rattle.laptop.specs.declared.Held.TheVariants.{Catalogue as HeldAsCatalogue}
-use Rattle.laptop.specs.declared.Held.TheVariants.{Nothing as HeldNothing}
+use Rattle.std.specs.Prelude.{Option, Some, None}
 use Rattle.laptop.specs.declared.Size.{Size}
-use Rattle.catalogue.specs.Bytes.{catalogue_bytes, catalogue_of, least_objects, HeldCatalogue, nothing, holding, held_catalogue, size_refusal, held_refusal, catalogue_refusal, held_bytes, written_bytes, written_into, CatalogueWritten}
-use Rattle.catalogue.specs.declared.Bytes.{Bytes}
+use Rattle.catalogue.specs.Bytes.{Bytes, catalogue_bytes, catalogue_of, least_objects, HeldCatalogue, nothing, holding, held_catalogue, size_refusal, held_refusal, catalogue_refusal, held_bytes, written_bytes, written_into, CatalogueWritten}
 
 module _ (extent bytes room : ℕ) where
   pub size_few : extent < least_objects → 12 ≡ size_refusal extent bytes room
@@ -75,17 +72,13 @@ module _ (held : HeldCatalogue) (words : ℕ) (out : List ℕ) where
         let bytes : held_bytes held ≡ catalogue_bytes c = ap held_bytes h in
         record { result_is = simp (number, bytes, all); buffer_is = simp (number, bytes) (a ∙ sets_front out (catalogue_bytes c) fits) }
 
--- a part from the front is no longer than the whole
-pub part_most : (n : ℕ) (l part : List ℕ) (most : ℕ) → length l ≡ most → part ≡ take n l → length part ≤ most
-part_most n l part most size e = omega (arith, ap length e, length-take n l)
+module _ (held : Option Size) (identity svids modes run : List ℕ) where
+  pub held_nothing : held ≡ None → held_catalogue held identity svids modes run ≡ nothing
+  held_nothing e = ap (λ (h : Option Size). held_catalogue h identity svids modes run) e
 
-module _ (held : Held) (identity svids modes run : List ℕ) where
-  pub held_nothing : held ≡ HeldNothing → held_catalogue held identity svids modes run ≡ nothing
-  held_nothing e = ap (λ (h : Held). held_catalogue h identity svids modes run) e
-
-  pub held_holding : (size : Size) → held ≡ HeldAsCatalogue size → (objects list : List ℕ) →
+  pub held_holding : (size : Size) → held ≡ Some size → (objects list : List ℕ) →
       objects ≡ take size.extent identity → list ≡ take size.count svids →
       held_catalogue held identity svids modes run ≡ holding (catalogue_of objects list modes run)
   held_holding size e objects list eo el =
-      ap (λ (h : Held). held_catalogue h identity svids modes run) e ∙
+      ap (λ (h : Option Size). held_catalogue h identity svids modes run) e ∙
       ap₂ (λ (o : List ℕ) (l : List ℕ). holding (catalogue_of o l modes run)) (sym eo) (sym el)

@@ -2,26 +2,34 @@
 use mathlib.Core.Path.{◌≡◌, refl, ap, ap₂, sym, ◌∙◌}
 use mathlib.Core.Bool.{Bool, cond}
 use mathlib.Core.List.{List, [], ◌∷◌, ◌++◌}
-use Prim.Native.Nat.{ℕ, zero, suc, ◌+◌, ◌*◌, ◌/◌, ◌%◌, ◌≤◌}
+use Prim.Native.Nat.{ℕ, zero, suc, ◌+◌, ◌*◌, ◌/◌, ◌%◌, ◌^◌, ◌≤◌}
 use native.Mathlib.Nat.{div-one}
 use native.Mathlib.Omega.{arith}
-use lib.ListN.{length, length-append}
+use lib.ListN.{length, take, length-append}
 use lib.Seq.{sets, length-sets}
 use borrow.Author.Tests.{eq-eqb, ne_eqb}
+use Rattle.std.proofs.Math.Nat.{div-div-eq-div-mul, pow-suc}
+use Rattle.std.specs.Int.{w64, to_le_bytes, bytes_low_first}
 use Rattle.laws.proofs.Stores.{sets_append}
 use Rattle.messages.specs.Layout.{bytes_of_object, bytes_of}
 use Rattle.laptop.specs.Catalogue.{Entry, Catalogue}
 use Rattle.catalogue.specs.Bytes.{svid_kind, mode_kind, end_kind, svid_bytes, mode_bytes, modes_bytes, entry_bytes, entries_bytes, catalogue_bytes, most_objects}
 use Rattle.catalogue.specs.Records.{low_first, mode_size, object_size, word_number, words_bytes, Put}
 
--- the next byte of a number
-pub low_next : (size rest number : ℕ) → size ≡ suc rest → low_first size number ≡ (number % 256 ∷ []) ++ low_first rest (number / 256)
+-- the low bytes of a number of eight
+low_from : (i k m number : ℕ) → k ≤ m → take k (bytes_low_first i m number) ≡ low_first k (number / 256 ^ i)
 unfolding low_first
-low_next size rest number e = ap (λ (k : ℕ). low_first k number) e
+low_from i zero m number few = refl
+low_from i (suc k) zero number few = absurd (omega arith)
+low_from zero (suc k) (suc m) number few =
+    rw div-one (ap (λ (l : List ℕ). number % 256 ∷ l) (low_from 1 k m number (omega arith)))
+low_from (suc i) (suc k) (suc m) number few =
+    let behind : number / 256 ^ suc i / 256 ≡ number / 256 ^ suc (suc i) =
+    div-div-eq-div-mul number (256 ^ suc i) 256 ∙ ap (λ (n : ℕ). number / n) (sym (pow-suc 256 (suc i))) in
+    ap (λ (l : List ℕ). number / 256 ^ suc i % 256 ∷ l) (low_from (suc (suc i)) k m number (omega arith) ∙ ap (low_first k) (sym behind))
 
-pub low_none : (size number : ℕ) → size ≡ 0 → low_first size number ≡ []
-unfolding low_first
-low_none size number e = ap (λ (k : ℕ). low_first k number) e
+pub low_taken : (size number : ℕ) → size ≤ 8 → take size (to_le_bytes w64 number) ≡ low_first size number
+low_taken size number few = low_from 0 size 8 number few ∙ ap (low_first size) (div-one number)
 
 pub length_low : (size number : ℕ) → length (low_first size number) ≡ size
 unfolding low_first

@@ -1,5 +1,5 @@
 -- A run of stores, one part after the other: where a writing loop stands.
-use mathlib.Core.Path.{◌≡◌, refl, ap, ap₂, sym, ◌∙◌}
+use mathlib.Core.Path.{◌≡◌, ap, ap₂, sym, ◌∙◌}
 use mathlib.Core.List.{List, [], ◌++◌}
 use Prim.Native.Nat.{ℕ, ◌+◌}
 use native.Mathlib.Omega.{arith}
@@ -13,10 +13,6 @@ pub record Storing (start : List ℕ) (place : ℕ) (all out : List ℕ) (at : �
   pub ends : at + length left ≡ place + length all
   pub kept : length out ≡ length start
   pub stored : sets out at left ≡ sets start place all
-
-pub storing_start : (out : List ℕ) (at : ℕ) (all left : List ℕ) → left ≡ all → Storing out at all out at left
-storing_start out at all left e =
-    record { ends = ap (λ (l : List ℕ). at + length l) e; kept = refl; stored = ap (sets out at) e }
 
 pub storing_next : {start : List ℕ} {place : ℕ} {all out : List ℕ} {at : ℕ} {left : List ℕ} → Storing start place all out at left →
     (part rest : List ℕ) → left ≡ part ++ rest → {next : ℕ} {after : List ℕ} → Put out at part next after → Storing start place all after next rest

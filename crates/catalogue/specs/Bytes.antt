@@ -1,12 +1,11 @@
 -- A catalogue's bytes, and the writing of the held one (01, "Catalogue bytes" and "Refusal numbers").
-use Rattle.std.specs.Prelude.{◌≡◌, ℕ, ◌^◌, ◌<◌, ◌≤◌, cond, List, [], ◌∷◌, ◌++◌, ltb, eqb, length, drop}
+use Rattle.std.specs.Prelude.{◌≡◌, ℕ, ◌^◌, ◌<◌, ◌≤◌, Result, Ok, Err, cond, List, [], ◌∷◌, ◌++◌, ltb, eqb, length, drop, Option, Some, None}
 use Rattle.laws.specs.Bounded.{Below}
 use Rattle.messages.specs.Layout.{bits, bytes_of_object, bytes_of}
+use Rattle.messages.specs.Refusals.{number_of}
+use Rattle.messages.specs.declared.refusal.Refusal.{Refusal}
 use Rattle.laptop.specs.Catalogue.{Entry, Catalogue, modes_each, run_words, entries_from, catalogue_in}
-use Rattle.laptop.specs.declared.Held.{Held}
-use Rattle.laptop.specs.declared.Held.TheVariants.{Catalogue as HeldAsCatalogue}
-use Rattle.laptop.specs.declared.Held.TheVariants.{Nothing as HeldNothing}
-use Rattle.catalogue.specs.declared.Bytes.{Bytes}
+use Rattle.laptop.specs.declared.Size.{Size}
 
 -- the kinds; the identity's is the number of its objects
 abbrev pub svid_kind : ℕ
@@ -74,9 +73,9 @@ pub data HeldCatalogue : Type 0 where
   nothing : HeldCatalogue
   holding : Catalogue → HeldCatalogue
 
-abbrev pub held_catalogue : Held → List ℕ → List ℕ → List ℕ → List ℕ → HeldCatalogue
-held_catalogue HeldNothing identity svids modes run = nothing
-held_catalogue (HeldAsCatalogue size) identity svids modes run = holding (catalogue_in size identity svids modes run)
+abbrev pub held_catalogue : Option Size → List ℕ → List ℕ → List ℕ → List ℕ → HeldCatalogue
+held_catalogue None identity svids modes run = nothing
+held_catalogue (Some size) identity svids modes run = holding (catalogue_in size identity svids modes run)
 
 -- 11 for a run of too few words comes first, then 12, and 11 for a buffer without the room comes last; fewer than three identity objects
 -- are no catalogue, and their number would be no kind of an identity
@@ -101,6 +100,15 @@ written_bytes held words room = cond (eqb (catalogue_refusal held words room) 0)
 -- the buffer afterwards: the bytes past the end stay
 unfoldable pub written_into : List ℕ → List ℕ → List ℕ
 written_into out bytes = bytes ++ drop (length bytes) out
+
+-- what is given back: the refusal number, and how many bytes were written
+pub record Bytes : Type 0 where
+  pub refusal : ℕ
+  pub length : ℕ
+
+abbrev pub bytes_in : Result ℕ Refusal → Bytes
+bytes_in (Ok length) = record { refusal = 0; length = length }
+bytes_in (Err refusal) = record { refusal = number_of refusal; length = 0 }
 
 -- what writing promises: the number, how many bytes were written, and the whole buffer
 pub record CatalogueWritten (held : HeldCatalogue) (words : ℕ) (out : List ℕ) (result : Bytes) (after : List ℕ) : Type 0 where

@@ -1,76 +1,59 @@
 #![tactic(auto)]
 
 // The held catalogue as bytes. Document 01, "Catalogue bytes".
-ghost use Rattle.std.specs.Prelude.{◌≡◌, ◌≤◌, length};
-ghost use Rattle.std.proofs.lemmas.List.Edits.{sets};
-ghost use Rattle.laptop.specs.Catalogue.{run_words};
-ghost use Rattle.pages.specs.Lists.{most_svids};
-ghost use Rattle.catalogue.specs.Bytes.{catalogue_bytes, catalogue_of, most_objects, most_bytes, held_catalogue, size_refusal, CatalogueWritten};
-
 mod entries;
 mod numbers;
+mod parts;
 
-use entries::{entries_length, put_entries};
-use laptop::{Held, Laptop, RUN_WORDS, held_list};
-use messages::first_objects;
+ghost use Rattle.std.specs.Prelude.{◌≡◌, ◌≤◌, length};
+ghost use Rattle.std.proofs.lemmas.List.Edits.{sets};
+ghost use Rattle.messages.specs.Refusals.{number_in};
+ghost use Rattle.catalogue.specs.Bytes.{catalogue_bytes, most_bytes, bytes_in, held_catalogue, size_refusal, CatalogueWritten};
+ghost use Rattle.catalogue.specs.Parts.{catalogue_in_parts};
+
+use laptop::{Laptop, RUN_WORDS};
+use messages::{Refusal, first};
 use numbers::{OBJECT_SIZE, put_number, put_words};
-
-// The refusal number, and how many bytes were written.
-#[derive(Clone, Copy)]
-pub struct Bytes {
-    pub refusal: u8,
-    pub length: u16,
-}
+use parts::Parts;
 
 const END_KIND: u64 = 0x00;
 
 const LEAST_OBJECTS: usize = 3;
 
-// How many bytes a catalogue takes.
-fn catalogue_length(objects: &[u32], svids: &[u16], modes: &[u8; 72], run: &[u32]) -> usize
-    requires { (length objects.now ≤ most_objects) × (length svids.now ≤ most_svids) × (run_words ≤ length run.now) }
-    ensures { (result ≡ length (catalogue_bytes (catalogue_of objects.now svids.now modes.now run.now)))
-        × (result ≤ most_bytes) }
-{
-    objects.len() * 4 + entries_length(svids, modes, run) + 2
-}
+impl<'a> Parts<'a> {
+    // How many bytes the catalogue takes.
+    fn length(self) -> usize
+        ensures { (result ≡ length (catalogue_bytes (catalogue_in_parts self.entry))) × (result ≤ most_bytes) }
+    {
+        self.objects.len() * 4 + self.entries_length() + 2
+    }
 
-// The kind of an identity is the number of its objects.
-fn put_catalogue(out: &mut [u8], objects: &[u32], svids: &[u16], modes: &[u8; 72], run: &[u32])
-    requires { (length objects.now ≤ most_objects) × (length svids.now ≤ most_svids) × (run_words ≤ length run.now)
-        × (length (catalogue_bytes (catalogue_of objects.now svids.now modes.now run.now)) ≤ length out.old) }
-    ensures { out.new ≡ sets out.old 0
-        (catalogue_bytes (catalogue_of objects.now svids.now modes.now run.now)) }
-{
-    let first = put_number(out, 0, objects.len() as u64, 1);
-    let second = put_words(out, first, objects, OBJECT_SIZE);
-    let end = put_entries(out, second, svids, modes, run);
-    put_number(out, end, END_KIND, 1);
-}
-
-fn refused(number: u8) -> Bytes
-    ensures { result ≡ record { refusal = number; length = 0 } }
-{
-    Bytes {
-        refusal: number,
-        length: 0,
+    // The kind of an identity is the number of its objects.
+    fn put(self, out: &mut [u8])
+        requires { length (catalogue_bytes (catalogue_in_parts self)) ≤ length out.old }
+        ensures { out.new ≡ sets out.old 0 (catalogue_bytes (catalogue_in_parts self.entry)) }
+    {
+        let first = put_number(out, 0, self.objects.len() as u64, 1);
+        let second = put_words(out, first, self.objects, OBJECT_SIZE);
+        let end = self.put_entries(out, second);
+        put_number(out, end, END_KIND, 1);
     }
 }
 
 // Too few identity objects are no catalogue: 12, then 11 for a short buffer.
-fn size_refusal(extent: usize, bytes: usize, room: usize) -> u8
-    ensures { result ≡ size_refusal extent bytes room }
+fn fitting(extent: usize, bytes: usize, room: usize) -> Result<(), Refusal>
+    ensures { number_in result ≡ size_refusal extent bytes room }
 {
     if extent < LEAST_OBJECTS {
-        return 12;
+        Err(Refusal::NotHeld)
+    } else if room < bytes {
+        Err(Refusal::TooShort)
+    } else {
+        Ok(())
     }
-    if room < bytes {
-        return 11;
-    }
-    0
 }
 
-// Writes the held catalogue: refused 11 for a short run, then 12, then 11 for a short buffer.
+// Writes the held catalogue, and gives how many bytes: refused 11 for a short run, then 12, then 11 for a short buffer.
 pub fn write_catalogue(
     laptop: Laptop,
     held_svids: &[u16; 72],
@@ -78,28 +61,23 @@ pub fn write_catalogue(
     held_identity: &[u32; 6],
     held_run: &[u32],
     out: &mut [u8],
-) -> Bytes
+) -> Result<u16, Refusal>
     ensures { CatalogueWritten
         (held_catalogue laptop.held held_identity.now held_svids.now held_modes.now held_run.now)
-        (length held_run.now) out.old result out.new }
+        (length held_run.now) out.old (bytes_in result) out.new }
 {
     if held_run.len() < RUN_WORDS {
-        return refused(11);
+        return Err(Refusal::TooShort);
     }
-    let held = laptop.held;
-    let Held::Catalogue(size) = held else {
-        return refused(12);
+    let size = laptop.held.ok_or(Refusal::NotHeld)?;
+    let parts = Parts {
+        objects: first(held_identity, usize::from(size.extent)),
+        svids: first(held_svids, usize::from(size.count)),
+        modes: held_modes,
+        run: held_run,
     };
-    let objects = first_objects(held_identity, size.extent as usize);
-    let svids = held_list(held, held_svids);
-    let length = catalogue_length(objects, svids, held_modes, held_run);
-    let refusal = size_refusal(objects.len(), length, out.len());
-    if refusal != 0 {
-        return refused(refusal);
-    }
-    put_catalogue(out, objects, svids, held_modes, held_run);
-    Bytes {
-        refusal: 0,
-        length: length as u16,
-    }
+    let length = parts.length();
+    fitting(parts.objects.len(), length, out.len())?;
+    parts.put(out);
+    Ok(length as u16)
 }

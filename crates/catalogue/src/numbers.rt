@@ -10,18 +10,13 @@ const MODE_KIND: u64 = 0x20;
 
 // A number of so many bytes, the low byte first.
 pub(crate) fn put_number(out: &mut [u8], at: usize, number: u64, size: usize) -> usize
-    requires { at + size ≤ length out.old }
+    requires few { size ≤ 8 }
+    requires room { at + size ≤ length out.old }
     ensures { Put out.old at (low_first size number) result out.new }
 {
     let end = at + size;
-    let mut place = at;
-    let mut left = number;
-    while place < end {
-        out[place] = (left % 256) as u8;
-        left = left / 256;
-        place += 1;
-    }
-    place
+    out[at..end].copy_from_slice(&number.to_le_bytes()[..size]);
+    end
 }
 
 // A mode's kind stands before its word.
@@ -29,20 +24,20 @@ fn word_number(word: u32, size: usize) -> u64
     ensures { result ≡ word_number size word }
 {
     if size == MODE_SIZE {
-        return MODE_KIND + (word as u64) * 256;
+        MODE_KIND + u64::from(word) * 256
+    } else {
+        u64::from(word)
     }
-    word as u64
 }
 
 pub(crate) fn put_words(out: &mut [u8], at: usize, words: &[u32], size: usize) -> usize
-    requires { at + length (words_bytes size words.now) ≤ length out.old }
+    requires few { size ≤ 8 }
+    requires room { at + length (words_bytes size words.now) ≤ length out.old }
     ensures { Put out.old at (words_bytes size words.now) result out.new }
 {
     let mut place = at;
-    let mut i = 0;
-    while i < words.len() {
-        place = put_number(out, place, word_number(words[i], size), size);
-        i += 1;
+    for word in words {
+        place = put_number(out, place, word_number(*word, size), size);
     }
     place
 }

@@ -6,7 +6,7 @@ use native.Mathlib.Omega.{arith}
 use lib.ListN.{length, drop}
 use Rattle.laptop.specs.Catalogue.{Catalogue}
 use Rattle.records.specs.Records.{found_in}
-use Rattle.records.specs.declared.Found.TheVariants.{Whole}
+use Rattle.records.specs.Records.{Whole}
 use Rattle.records.specs.declared.Record.TheVariants.{End}
 use Rattle.judging.specs.Judging.{Judgement, judgement_of}
 use Rattle.catalogue_laws.specs.Given.{Passed, Given}

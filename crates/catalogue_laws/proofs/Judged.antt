@@ -5,7 +5,7 @@ use Prim.Native.Nat.{ℕ, ◌≤◌}
 use native.Mathlib.Omega.{arith}
 use Rattle.judging.specs.Judging.{judgement_of, FileJudged}
 use Rattle.judging.specs.Walking.{walk_of}
-use Rattle.judging.specs.declared.Judged.{Judged}
+use Rattle.judging.specs.Judging.{Judged}
 use Rattle.judging.specs.declared.walk.Walk.{Walk}
 use Rattle.catalogue_laws.proofs.Bounds.{bounds}
 

@@ -11,7 +11,7 @@ use Rattle.messages.specs.Layout.{bits, bytes_of_object, objects_of, bytes_of}
 use Rattle.messages.proofs.Objects.{objects_bytes, length_bytes}
 use Rattle.catalogue.specs.Bytes.{end_kind, least_objects, most_objects, svid_bytes, mode_bytes}
 use Rattle.records.specs.Records.{is_identity, is_known, body_length, svid_in, mode_in, record_of, found_in}
-use Rattle.records.specs.declared.Found.TheVariants.{Whole}
+use Rattle.records.specs.Records.{Whole}
 use Rattle.records.specs.declared.Record.{Record}
 use Rattle.records.specs.declared.Record.TheVariants.{Identity, Svid, Mode, End}
 use Rattle.records.proofs.Bodies.{known_identity, length_identity, of_identity}

@@ -14,7 +14,7 @@ use Rattle.pages.specs.Lists.{most_svids, sound_list}
 use Rattle.laptop.specs.Catalogue.{Entry, Catalogue, modes_each}
 use Rattle.catalogue.specs.Bytes.{least_objects, most_objects, Each, EntryFits, Representable}
 use Rattle.records.specs.Records.{svid_in, mode_in, found_in}
-use Rattle.records.specs.declared.Found.TheVariants.{Whole}
+use Rattle.records.specs.Records.{Whole}
 use Rattle.records.specs.declared.Record.{Record}
 use Rattle.records.specs.declared.Record.TheVariants.{Identity, Svid, Mode, End}
 use Rattle.records.proofs.Laws.{IsWhole, whole, Told, told}

@@ -13,7 +13,7 @@ use Rattle.messages.proofs.Objects.{object_bytes, bytes_objects, length_objects}
 use Rattle.laptop.specs.Catalogue.{Entry, Catalogue}
 use Rattle.catalogue.specs.Bytes.{svid_kind, mode_kind, svid_bytes, mode_bytes, modes_bytes, entry_bytes, entries_bytes}
 use Rattle.records.specs.Records.{body_length, svid_in, mode_in, found_in}
-use Rattle.records.specs.declared.Found.TheVariants.{Whole}
+use Rattle.records.specs.Records.{Whole}
 use Rattle.records.specs.declared.Record.{Record}
 use Rattle.records.specs.declared.Record.TheVariants.{Identity, Svid, Mode}
 use Rattle.records.proofs.Laws.{IsWhole, whole, Told, told}

@@ -15,7 +15,7 @@ use Rattle.pages.specs.Lists.{most_svids, is_in}
 use Rattle.laptop.specs.Catalogue.{Entry, Catalogue, modes_each}
 use Rattle.catalogue.specs.Bytes.{end_kind, least_objects, most_objects, svid_bytes, mode_bytes, modes_bytes}
 use Rattle.records.specs.Records.{found_in}
-use Rattle.records.specs.declared.Found.TheVariants.{Whole}
+use Rattle.records.specs.Records.{Whole}
 use Rattle.records.specs.declared.Record.{Record}
 use Rattle.records.specs.declared.Record.TheVariants.{Identity, Svid, Mode, End}
 use Rattle.records.proofs.Laws.{whole_length}

@@ -9,7 +9,7 @@ use Rattle.pages.specs.Lists.{most_svids}
 use Rattle.laptop.specs.Catalogue.{Catalogue, modes_each}
 use Rattle.catalogue.specs.Bytes.{least_objects, most_objects, most_bytes}
 use Rattle.records.specs.Records.{body_length, svid_in, mode_in, record_of, found_in}
-use Rattle.records.specs.declared.Found.TheVariants.{Whole}
+use Rattle.records.specs.Records.{Whole}
 use Rattle.records.specs.declared.Record.{Record}
 use Rattle.records.specs.declared.Record.TheVariants.{Identity, Svid, Mode}
 use Rattle.records.proofs.Bodies.{identity_bounds}

@@ -6,8 +6,8 @@ use mathlib.Core.List.{List}
 use Prim.Native.Nat.{ℕ, suc}
 use Rattle.laptop.specs.Catalogue.{Catalogue}
 use Rattle.records.specs.Records.{cut_record, found_in}
-use Rattle.records.specs.declared.Found.{Found}
-use Rattle.records.specs.declared.Found.TheVariants.{Whole, Unknown, Cut, Nothing}
+use Rattle.records.specs.Records.{Found}
+use Rattle.records.specs.Records.{Whole, Unknown, Cut, Nothing}
 use Rattle.records.specs.declared.Record.{Record}
 use Rattle.records.specs.declared.Record.TheVariants.{Identity, Svid, Mode, End}
 use Rattle.judging.specs.Judging.{judgement, walk_from}

@@ -6,8 +6,8 @@ use Prim.Native.Nat.{ℕ, suc, ◌+◌}
 use lib.ListN.{drop}
 use Rattle.laptop.specs.Catalogue.{Catalogue}
 use Rattle.records.specs.Records.{found_in, unknown_kind, cut_record}
-use Rattle.records.specs.declared.Found.{Found}
-use Rattle.records.specs.declared.Found.TheVariants.{Whole, Unknown, Cut, Nothing}
+use Rattle.records.specs.Records.{Found}
+use Rattle.records.specs.Records.{Whole, Unknown, Cut, Nothing}
 use Rattle.records.specs.declared.Record.{Record}
 use Rattle.judging.specs.Judging.{judgement, out_of_order, ended, turn, length_of, with, walk_from}
 use Rattle.judging.specs.Walking.{svids_of, walk_of, is_end, may_follow, added}

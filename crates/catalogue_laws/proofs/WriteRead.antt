@@ -9,7 +9,7 @@ use Rattle.laws.specs.Bounded.{Below}
 use Rattle.laptop.specs.Catalogue.{Catalogue}
 use Rattle.catalogue.specs.Bytes.{end_kind, entries_bytes, catalogue_bytes}
 use Rattle.records.specs.Records.{found_in}
-use Rattle.records.specs.declared.Found.TheVariants.{Whole}
+use Rattle.records.specs.Records.{Whole}
 use Rattle.records.specs.declared.Record.{Record}
 use Rattle.records.specs.declared.Record.TheVariants.{Identity, Svid, Mode, End}
 use Rattle.records.proofs.Laws.{IsWhole, whole, Told, told}

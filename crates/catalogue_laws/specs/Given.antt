@@ -2,7 +2,7 @@
 use Rattle.std.specs.Prelude.{◌⊎◌, ◌≡◌, false, List, ℕ, ◌+◌, ◌<◌, length, drop}
 use Rattle.laptop.specs.Catalogue.{Catalogue}
 use Rattle.records.specs.Records.{found_in, unknown_kind, cut_record}
-use Rattle.records.specs.declared.Found.TheVariants.{Whole, Unknown, Cut, Nothing}
+use Rattle.records.specs.Records.{Whole, Unknown, Cut, Nothing}
 use Rattle.records.specs.declared.Record.{Record}
 use Rattle.records.specs.declared.Record.TheVariants.{End}
 use Rattle.judging.specs.Judging.{out_of_order, bytes_after_end, nothing_yet}

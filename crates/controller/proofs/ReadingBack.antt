@@ -8,9 +8,9 @@ use Rattle.laws.specs.Lent.{Lent, lent, left, accepted}
 use Rattle.catalogue.specs.Bytes.{most_bytes}
 use Rattle.catalogue_laws.proofs.Bounds.{place_most}
 use Rattle.rebuilding.specs.Rebuilding.{Arrays, CatalogueRead, Small}
-use Rattle.rebuilding.specs.declared.Rebuilt.{Rebuilt}
+use Rattle.rebuilding.specs.Rebuilding.{Rebuilt}
 use Rattle.rebuilding.proofs.Laws.{read_small}
-use Rattle.stretches.specs.declared.Place.{Place}
+use Rattle.stretches.specs.Stretches.{Place}
 use Rattle.stretches.proofs.Fitting.{stretch_end}
 use Rattle.controller.specs.CatalogueReading.{with_offset, sizes_of, arrays_of, ReadCall, place_of, StretchCall}
 use Rattle.controller.proofs.Accepting.{accepted_written, accepted_kept}

@@ -3,9 +3,9 @@ use Rattle.std.specs.Prelude.{◌≡◌, ℕ, ◌+◌, ◌*◌, List, [], ◌∷
 use Rattle.laws.specs.Lent.{Lent, lent, left, accepted}
 use Rattle.judging.specs.Judging.{judgement_of}
 use Rattle.rebuilding.specs.Rebuilding.{Arrays, read_as, read_into}
-use Rattle.rebuilding.specs.declared.Rebuilt.{Rebuilt}
+use Rattle.rebuilding.specs.Rebuilding.{Rebuilt}
 use Rattle.stretches.specs.Stretches.{stretch_in}
-use Rattle.stretches.specs.declared.Place.{Place}
+use Rattle.stretches.specs.Stretches.{Place}
 
 -- the refusal number in the low eight bits, and the offset above them
 abbrev pub with_offset : ℕ → ℕ → ℕ

@@ -5,12 +5,12 @@ use Rattle.messages.specs.Reading.{read_outcome}
 use Rattle.laptop.specs.Calls.{Decision, step_of, buffer_of}
 use Rattle.laptop.specs.State.{Memory, LentMemory}
 use Rattle.laptop.specs.declared.Laptop.{Laptop}
-use Rattle.laptop.specs.declared.Step.{Step as LaptopAsStep}
+use Rattle.laptop.specs.Step.{Step as LaptopAsStep}
 use Rattle.hearing.specs.Hearing.{Result, heard}
 use Rattle.port.specs.Calls.{owners_decision, concerning}
 use Rattle.port.specs.Sides.{seen, stepped_on}
 use Rattle.port.specs.declared.Side.{Side}
-use Rattle.port.specs.declared.Step.{Step}
+use Rattle.port.specs.Step.{Step}
 use Rattle.controller.specs.Port.{port_from, numbers_after}
 use Rattle.laws.specs.Lent.{Lent, lent, left, accepted}
 use Rattle.controller.specs.Told.{handed_numbers}

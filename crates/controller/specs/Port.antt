@@ -1,6 +1,6 @@
 -- The laptop end's state as 22 numbers, and back. Any numbers are taken: of one that is to be a byte the low eight bits count, and one that says what
 -- is awaited, gathered or held, or an edition, and is none of those below counts as nothing awaited, no candidate, nothing held, 2.1.
-use Rattle.std.specs.Prelude.{ℕ, ◌+◌, ◌%◌, cond, List, [], ◌∷◌, ◌++◌, eqb, get_or}
+use Rattle.std.specs.Prelude.{ℕ, ◌+◌, ◌%◌, cond, List, [], ◌∷◌, ◌++◌, eqb, get_or, Option, Some, None}
 use Rattle.messages.specs.Editions.{edition_number}
 use Rattle.messages.specs.declared.edition.Edition.{Edition}
 use Rattle.messages.specs.declared.edition.Edition.TheVariants.{OneZero, TwoZero, TwoOne}
@@ -8,16 +8,12 @@ use Rattle.messages.specs.declared.request.Request.{Request}
 use Rattle.taking.specs.Taking.{same_list}
 use Rattle.laptop.specs.declared.Candidate.{Candidate}
 use Rattle.laptop.specs.declared.Candidate.TheVariants.{Absent, Open, Done}
-use Rattle.laptop.specs.declared.Held.{Held}
-use Rattle.laptop.specs.declared.Held.TheVariants.{Catalogue}
-use Rattle.laptop.specs.declared.Held.TheVariants.{Nothing as HeldNothing}
 use Rattle.laptop.specs.declared.Size.{Size}
 use Rattle.port.specs.declared.Own.{Own}
 use Rattle.port.specs.declared.Port.{Port}
 use Rattle.port.specs.declared.Side.{Side}
 use Rattle.port.specs.declared.Side.TheVariants.{Partner, Cable}
-use Rattle.port.specs.declared.Wait.{Wait}
-use Rattle.port.specs.declared.Wait.TheVariants.{Nothing, Answer}
+use Rattle.port.specs.Sides.{Wait}
 
 -- the low eight bits
 abbrev pub low_byte : ℕ → ℕ
@@ -39,15 +35,15 @@ edition_from number = cond (eqb number 10) OneZero (cond (eqb number 20) TwoZero
 
 -- 1 an answer of the partner, 2 an answer of the cable, any other nothing
 abbrev pub wait_from : ℕ → Request → Wait
-wait_from tag request = cond (eqb tag 1) (Answer Partner request) (cond (eqb tag 2) (Answer Cable request) Nothing)
+wait_from tag request = cond (eqb tag 1) (Some (Partner, request)) (cond (eqb tag 2) (Some (Cable, request)) None)
 
 -- 1 its list is open, 2 its list is done, any other none
 abbrev pub candidate_from : ℕ → Candidate
 candidate_from tag = cond (eqb tag 1) Open (cond (eqb tag 2) Done Absent)
 
 -- 1 a catalogue, any other nothing
-abbrev pub held_from : ℕ → Size → Held
-held_from tag size = cond (eqb tag 1) (Catalogue size) HeldNothing
+abbrev pub held_from : ℕ → Size → Option Size
+held_from tag size = cond (eqb tag 1) (Some size) None
 
 -- what is awaited, in the first four
 unfoldable pub wait_in : List ℕ → Wait
@@ -74,17 +70,17 @@ side_number Partner = 0
 side_number Cable = 1
 
 abbrev pub wait_numbers : Wait → List ℕ
-wait_numbers Nothing = 0 ∷ 0 ∷ 0 ∷ 0 ∷ []
-wait_numbers (Answer side r) = (side_number side + 1) ∷ r.svid ∷ r.command ∷ r.position ∷ []
+wait_numbers None = 0 ∷ 0 ∷ 0 ∷ 0 ∷ []
+wait_numbers (Some (side, r)) = (side_number side + 1) ∷ r.svid ∷ r.command ∷ r.position ∷ []
 
 abbrev pub candidate_number : Candidate → ℕ
 candidate_number Absent = 0
 candidate_number Open = 1
 candidate_number Done = 2
 
-abbrev pub held_numbers : Held → List ℕ
-held_numbers HeldNothing = 0 ∷ 0 ∷ 0 ∷ []
-held_numbers (Catalogue size) = 1 ∷ size.extent ∷ size.count ∷ []
+abbrev pub held_numbers : Option Size → List ℕ
+held_numbers None = 0 ∷ 0 ∷ 0 ∷ []
+held_numbers (Some size) = 1 ∷ size.extent ∷ size.count ∷ []
 
 unfoldable pub own_numbers : Own → List ℕ
 own_numbers own =

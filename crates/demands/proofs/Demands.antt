@@ -1,7 +1,6 @@
 -- The three demands, as theorems about the definitions that the promises of the code cite. Every public function promises that its result is the
 -- one that its definition gives, for all arguments: it has no `requires`, and it finishes (docs/PROMISES.md).
 use mathlib.Core.Logic.{◌⊎◌, ◌↔◌}
-use mathlib.Core.Option.{some}
 use mathlib.Core.Path.{◌≡◌}
 use mathlib.Core.Bool.{true, false}
 use mathlib.Core.List.{List, [], ◌∷◌, ◌++◌}
@@ -39,7 +38,7 @@ use Rattle.laptop.specs.State.{Memory, fresh_laptop, identity_request}
 use Rattle.owner.specs.Owner.{any_entered}
 use Rattle.laptop.specs.declared.Candidate.TheVariants.{Absent}
 use Rattle.laptop.specs.declared.Laptop.{Laptop}
-use Rattle.laptop.specs.declared.Wait.TheVariants.{Nothing, Answer}
+use Rattle.std.specs.Prelude.{Some, None}
 use Rattle.laptop_laws.specs.Effects.{Call, effect_of, Kept, kept_after}
 use Rattle.laptop_laws.specs.Editions.{identity_out, acknowledged, edition_by, request_edition, SentAt, NoIdentityOut, NoneAcknowledged}
 use Rattle.laptop_laws.specs.Given.{ShortRun, AnyEntered, Given}
@@ -70,7 +69,7 @@ use Rattle.dock_laws.proofs.Reserved.{dock_same}
 use Rattle.dock_laws.proofs.SentAt.{sent_at as dock_sent_at}
 use Rattle.dock_laws.proofs.SentAt.{answered_at, nak_at}
 use Rattle.catalogue.specs.Bytes.{end_kind, catalogue_bytes, written_into, HeldCatalogue, holding, held_catalogue, CatalogueWritten}
-use Rattle.catalogue.specs.declared.Bytes.{Bytes}
+use Rattle.catalogue.specs.Bytes.{Bytes}
 use Rattle.catalogue.proofs.Laws.{refused_leaves}
 use Rattle.laptop.specs.Catalogue.{Catalogue, catalogue_in}
 use Rattle.records.specs.declared.Record.{Record}
@@ -86,7 +85,7 @@ use Rattle.catalogue_laws.proofs.ReadWrite.{read_write}
 use Rattle.catalogue_laws.proofs.Words.{wrong_exactly}
 use Rattle.catalogue_laws.proofs.WriteRead.{write_read as catalogue_write_read}
 use Rattle.rebuilding.specs.Rebuilding.{Arrays, CatalogueRead}
-use Rattle.rebuilding.specs.declared.Rebuilt.{Rebuilt}
+use Rattle.rebuilding.specs.Rebuilding.{Rebuilt}
 use Rattle.rebuilding.proofs.Holding.{read_holds}
 use Rattle.rebuilding.proofs.Laws.{refused_leaves as reading_refused_leaves}
 use Rattle.stretches.specs.Stretches.{stretch_in}
@@ -94,8 +93,8 @@ use Rattle.stretches.proofs.Laws.{not_listed_exactly}
 use Rattle.mending.specs.Beginning.{BeginningOf}
 use Rattle.mending.specs.Mending.{kept_of, kept_bytes, mend_refusal, report_of, mending_of}
 use Rattle.mending.specs.Words.{AtFront}
-use Rattle.mending.specs.declared.Mended.TheVariants.{Refused as MendedRefused}
-use Rattle.mending.specs.declared.Mended.TheVariants.{Sound as MendedSound}
+use Rattle.mending.specs.Mending.{Refused as MendedRefused}
+use Rattle.mending.specs.Mending.{Sound as MendedSound}
 use Rattle.mending.specs.declared.keeping.Kept.{Kept as MendingKept}
 use Rattle.mending.proofs.Cutting.{cut_begins, nothing_behind}
 use Rattle.mending.proofs.Front.{kept_before, kept_front}
@@ -109,7 +108,6 @@ use Rattle.demands.proofs.NeverFour.{never_four}
 use Rattle.port.specs.Sides.{is_others, seen, stepped_on}
 use Rattle.port.specs.declared.Port.{Port}
 use Rattle.port.specs.declared.Side.{Side}
-use Rattle.port.specs.declared.Wait.TheVariants.{Nothing as PortNothing}
 use Rattle.port_laws.specs.Cases.{given as port_given}
 use Rattle.port_laws.specs.Cases.{said as port_said}
 use Rattle.port_laws.specs.Effects.{Call as PortCall}
@@ -205,7 +203,7 @@ pub port_given_exactly : (c : PortCall) (p : Port) (m : Memory) (out : List ℕ)
 port_given_exactly = given_exactly_of_port
 
 pub port_seven_exactly : (c : PortCall) (p : Port) (m : Memory) (out : List ℕ) → is_owners c ≡ true → (ShortRun m → ⊥) →
-    ((port_effect_of c p m out).step.refusal ≡ 7) ↔ (p.wait ≡ PortNothing → ⊥)
+    ((port_effect_of c p m out).step.refusal ≡ 7) ↔ (p.wait ≡ None → ⊥)
 port_seven_exactly = seven_exactly
 
 -- to the dock,
@@ -440,7 +438,7 @@ pub six_from_the_side_not_awaited : (side : Side) (p : Port) (m : Memory) (bytes
 six_from_the_side_not_awaited = six_from_the_other_side
 
 -- 13 is by a side's own entered modes only.
-pub thirteen_by_its_own_modes : (side : Side) (p : Port) (m : Memory) (out : List ℕ) → (ShortRun m → ⊥) → p.wait ≡ PortNothing →
+pub thirteen_by_its_own_modes : (side : Side) (p : Port) (m : Memory) (out : List ℕ) → (ShortRun m → ⊥) → p.wait ≡ None →
     ((port_effect_of (port_next side) p m out).step.refusal ≡ 13) ↔ AnyEntered m
 thirteen_by_its_own_modes = thirteen_by_own
 
@@ -520,7 +518,7 @@ every_edition_case = editions_hold
 
 -- DEMAND 3, for a dock of any highest edition (`highest` of `System`). It begins when, of a laptop and a dock at rest, a call sends Discover Identity.
 pub begins : (modes_of : ℕ → List ℕ) (s : System) → AtRest s → (out : List ℕ) (c : Call) →
-    (step modes_of (calls c out) s).laptop.wait ≡ Answer identity_request → Begins (step modes_of (calls c out) s)
+    (step modes_of (calls c out) s).laptop.wait ≡ Some identity_request → Begins (step modes_of (calls c out) s)
 begins = begins_with
 
 -- Every call keeps a laptop well-formed, so a laptop that was fresh once, beside a dock that is ready, is at rest whenever it awaits nothing, whatever it
@@ -530,7 +528,7 @@ pub well_formed_after_every_call : (c : Call) (l : Laptop) (m : Memory) (out : L
 well_formed_after_every_call = keeps
 
 pub at_rest_after_any_calls : (history : List (Call × List ℕ)) (m : Memory) (highest : Edition) (d : Dock) → Lent m → m.entered ≡ replicate 72 0 → d.standing ≡ Ready →
-    (kept_after history (record { laptop = fresh_laptop; memory = m })).laptop.wait ≡ Nothing →
+    (kept_after history (record { laptop = fresh_laptop; memory = m })).laptop.wait ≡ None →
     AtRest (apart (kept_after history (record { laptop = fresh_laptop; memory = m })) highest d)
 at_rest_after_any_calls = rests_after
 
@@ -605,7 +603,7 @@ module _ (modes_of : ℕ → List ℕ) (start : System) (meets : Meets modes_of 
   ends_unfinished_only_by = ends_only_by modes_of start meets begun events
 
   -- Whatever has been lost: where nothing is awaited and no mode is entered, next asks for an answer that is needed.
-  pub next_asks_for_what_is_needed : (out : List ℕ) → 28 ≤ length out → there.laptop.wait ≡ Nothing → any_entered there.memory.entered ≡ false →
+  pub next_asks_for_what_is_needed : (out : List ℕ) → 28 ≤ length out → there.laptop.wait ≡ None → any_entered there.memory.entered ≡ false →
       NextAsks modes_of start.dock there came out
   next_asks_for_what_is_needed = asks_for_what_is_needed modes_of start meets begun events
 
@@ -637,13 +635,13 @@ other_event_changes_nothing = away_changes_nothing
 pub left_out_changes_nothing : (c : PortCall) (out : List ℕ) (j : Joint) → is_message c ≡ false → is_unheard c j ≡ true → kept_by_of c out (kept_in_of j) ≡ kept_in_of j
 left_out_changes_nothing = unheard_changes_nothing
 
-pub arrival_is_the_ports : (modes_of : Side → ℕ → List ℕ) (side : Side) (j : Joint) (bytes : List ℕ) → on_way (far_end side j).fate ≡ some bytes →
+pub arrival_is_the_ports : (modes_of : Side → ℕ → List ℕ) (side : Side) (j : Joint) (bytes : List ℕ) → on_way (far_end side j).fate ≡ Some bytes →
     (joint_step modes_of (joint_arrive side) j).port ≡ (effect_in (port_message side bytes) [] (kept_in_of j)).step.port
 arrival_is_the_ports = arrival_is_a_message
 
 -- It begins when, of a side and its dock at rest, a call for the side sends Discover Identity.
 pub begins_on_a_side : (modes_of : Side → ℕ → List ℕ) (side : Side) (j : Joint) → AtRest (system_seen side j) → (out : List ℕ) (c : PortCall) →
-    is_away side (joint_calls c out) j ≡ false → (seen side (joint_step modes_of (joint_calls c out) j).port).wait ≡ Answer identity_request →
+    is_away side (joint_calls c out) j ≡ false → (seen side (joint_step modes_of (joint_calls c out) j).port).wait ≡ Some identity_request →
     Begins (system_seen side (joint_step modes_of (joint_calls c out) j))
 begins_on_a_side = begins_on
 
@@ -693,7 +691,7 @@ module _ (modes_of : Side → ℕ → List ℕ) (side : Side) (start : Joint) (m
   pub each_side_ends_unfinished_only_by : (e : Event) → EndsBy (modes_of side) (far_end side start).dock e there_on came_on
   each_side_ends_unfinished_only_by = ends_on modes_of side start meets begun events
 
-  pub each_side_asks_for_what_is_needed : (out : List ℕ) → 28 ≤ length out → there_on.laptop.wait ≡ Nothing → any_entered there_on.memory.entered ≡ false →
+  pub each_side_asks_for_what_is_needed : (out : List ℕ) → 28 ≤ length out → there_on.laptop.wait ≡ None → any_entered there_on.memory.entered ≡ false →
       NextAsks (modes_of side) (far_end side start).dock there_on came_on out
   each_side_asks_for_what_is_needed = asks_on modes_of side start meets begun events
 

@@ -8,9 +8,7 @@ use Rattle.laws.specs.Bounded.{Below}
 use Rattle.pages.specs.Lists.{sound_list}
 use Rattle.laptop.specs.Catalogue.{Catalogue, modes_each, run_words, modes_number, modes_at, entries_from, catalogue_in}
 use Rattle.laptop.specs.State.{Memory, fresh_laptop}
-use Rattle.laptop.specs.declared.Held.{Held}
-use Rattle.laptop.specs.declared.Held.TheVariants.{Catalogue as HeldAsCatalogue}
-use Rattle.laptop.specs.declared.Held.TheVariants.{Nothing as HeldNothing}
+use Rattle.std.specs.Prelude.{Option, Some, None}
 use Rattle.laptop.specs.declared.Laptop.{Laptop}
 use Rattle.laptop.specs.declared.Size.{Size}
 use Rattle.laptop.proofs.Numbers.{number_few}
@@ -18,7 +16,7 @@ use Rattle.laptop_laws.specs.Effects.{Call, Kept, kept_after}
 use Rattle.laptop_laws.specs.WellFormed.{Lent, Listed, HeldFits, WellFormed}
 use Rattle.laptop_laws.proofs.Laws.{fresh, keeps_all}
 use Rattle.catalogue.specs.Bytes.{catalogue_bytes, most_objects, Each, EntryFits, holding, held_catalogue, written_bytes, written_into, CatalogueWritten}
-use Rattle.catalogue.specs.declared.Bytes.{Bytes}
+use Rattle.catalogue.specs.Bytes.{Bytes}
 use Rattle.catalogue.proofs.Laws.{accepted_bytes}
 use Rattle.catalogue.proofs.Lengths.{length_entries}
 use Rattle.catalogue.proofs.Places.{modes_most}
@@ -84,10 +82,10 @@ pub held_within : (l : Laptop) (m : Memory) → WellFormed l m → length m.held
     held_catalogue l.held m.held_identity m.held_svids m.held_modes m.held_run ≡ holding c → Within c
 held_within l m formed six wide c = go l.held formed.held_fits
   where
-    go : (held : Held) → HeldFits held m.held_svids m.held_modes →
+    go : (held : Option Size) → HeldFits held m.held_svids m.held_modes →
         held_catalogue held m.held_identity m.held_svids m.held_modes m.held_run ≡ holding c → Within c
-    go HeldNothing fits e = absurd (let z : ◌≡◌ {A = ℕ} 0 1 = cc in omega arith)
-    go (HeldAsCatalogue size) fits e =
+    go None fits e = absurd (let z : ◌≡◌ {A = ℕ} 0 1 = cc in omega arith)
+    go (Some size) fits e =
         let is : catalogue_in size m.held_identity m.held_svids m.held_modes m.held_run ≡ c = cc in
         rw is at (listed_within size m.held_identity m.held_svids m.held_modes m.held_run six formed.lent.held_run_size
         wide.identity_wide wide.svids_wide wide.run_wide fits)

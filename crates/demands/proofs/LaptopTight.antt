@@ -8,9 +8,10 @@ use Rattle.laptop.specs.Calls.{Stepped, step_of}
 use Rattle.laptop.specs.Catalogue.{held_list}
 use Rattle.laptop.specs.Marks.{reported}
 use Rattle.laptop.specs.State.{Memory, fresh_laptop}
-use Rattle.laptop.specs.declared.Held.{Held}
+use Rattle.std.specs.Prelude.{Option}
+use Rattle.laptop.specs.declared.Size.{Size}
 use Rattle.laptop.specs.declared.Laptop.{Laptop}
-use Rattle.laptop.specs.declared.Step.{Step}
+use Rattle.laptop.specs.Step.{Step}
 use Rattle.owner.specs.Owner.{decide_next, decide_start_over, decide_drop, Enters, Exits}
 use Rattle.timers.specs.Timers.{decide_timer, decide_error}
 use Rattle.hearing.specs.Hearing.{Hears}
@@ -70,7 +71,7 @@ fresh_only l other entered entered' p q = (p.0 ∙ sym q.0, p.1 ∙ sym q.1)
 pub report_only : (l : Laptop) (held_svids entered : List ℕ) (svid : ℕ) → One (λ (n : ℕ). n ≡ reported l.held held_svids entered svid)
 report_only l held_svids entered svid = λ result other. one_value
 
-pub held_list_only : (held : Held) (held_svids : List ℕ) → One (λ (list : List ℕ). list ≡ held_list held held_svids)
+pub held_list_only : (held : Option Size) (held_svids : List ℕ) → One (λ (list : List ℕ). list ≡ held_list held held_svids)
 held_list_only held held_svids = λ result other. one_value
 
 -- writing the catalogue

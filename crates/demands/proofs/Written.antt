@@ -9,9 +9,8 @@ use borrow.Author.Tests.{le-ltb}
 use Rattle.pages.specs.Lists.{most_svids}
 use Rattle.laptop.specs.Catalogue.{Catalogue, run_words, catalogue_in}
 use Rattle.laptop.specs.State.{Memory}
-use Rattle.laptop.specs.declared.Held.{Held}
-use Rattle.laptop.specs.declared.Held.TheVariants.{Catalogue as HeldAsCatalogue}
-use Rattle.laptop.specs.declared.Held.TheVariants.{Nothing as HeldNothing}
+use Rattle.std.specs.Prelude.{Option, Some, None}
+use Rattle.laptop.specs.declared.Size.{Size}
 use Rattle.laptop.specs.declared.Laptop.{Laptop}
 use Rattle.laptop_laws.specs.WellFormed.{HeldFits, WellFormed}
 use Rattle.catalogue.specs.Bytes.{catalogue_bytes, least_objects, most_objects, most_bytes, held_catalogue, held_refusal, catalogue_refusal}
@@ -20,15 +19,15 @@ use Rattle.catalogue.proofs.Lengths.{length_entries, six_modes}
 use Rattle.catalogue.proofs.Outcomes.{size_fits}
 
 -- 12 for nothing
-abbrev pub nothing_refused : Held → ℕ
-nothing_refused HeldNothing = 12
-nothing_refused (HeldAsCatalogue size) = 0
+abbrev pub nothing_refused : Option Size → ℕ
+nothing_refused None = 12
+nothing_refused (Some size) = 0
 
 module _ (identity svids modes run : List ℕ) (six : length identity ≡ most_objects) (enough : run_words ≤ length run) (room : ℕ) (long : most_bytes ≤ room) where
-  held_written : (held : Held) → HeldFits held svids modes → held_refusal (held_catalogue held identity svids modes run) room ≡ nothing_refused held
+  held_written : (held : Option Size) → HeldFits held svids modes → held_refusal (held_catalogue held identity svids modes run) room ≡ nothing_refused held
   unfolding held_refusal
-  held_written HeldNothing fits = refl
-  held_written (HeldAsCatalogue size) fits =
+  held_written None fits = refl
+  held_written (Some size) fits =
       let c : Catalogue = catalogue_in size identity svids modes run in
       let objects = length-take size.extent identity in
       let few : length c.identity ≤ most_objects = omega (arith, objects) in
@@ -37,7 +36,7 @@ module _ (identity svids modes run : List ℕ) (six : length identity ≡ most_o
       let all : length (catalogue_bytes c) ≤ most_bytes = bytes_most c few most (six_modes modes run 0 (take size.count svids)) in
       sym (size_fits (length c.identity) (length (catalogue_bytes c)) room least (omega (arith, all)))
 
-  pub writing_refusal : (held : Held) → HeldFits held svids modes →
+  pub writing_refusal : (held : Option Size) → HeldFits held svids modes →
       catalogue_refusal (held_catalogue held identity svids modes run) (length run) room ≡ nothing_refused held
   unfolding catalogue_refusal
   writing_refusal held fits =

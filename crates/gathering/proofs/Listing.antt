@@ -1,63 +1,34 @@
 -- Answers to Identity and SVIDs, branch by branch.
-use mathlib.Core.Path.{◌≡◌, refl, ap, ap₂, sym, ◌∙◌}
-use mathlib.Core.Bool.{true, false, ◌&&◌}
-use mathlib.Core.List.{List, [], ◌∷◌}
-use Prim.Native.Nat.{ℕ, ◌+◌, ◌/◌, ◌%◌, ◌<◌, ◌≤◌}
-use lib.Dec.{eqb}
-use lib.ListN.{length, get_or, take, replicate}
+use mathlib.Core.Path.{◌≡◌, refl, ap, sym, ◌∙◌}
+use mathlib.Core.Bool.{Bool, true, false, cond}
+use mathlib.Core.List.{List}
+use Prim.Native.Nat.{ℕ, zero, suc, min, ◌+◌, ◌/◌, ◌%◌, ◌<◌, ◌≤◌}
+use lib.Dec.{leb, eqb}
+use lib.ListN.{length, get_or, take}
 use lib.Seq.{sets}
-use borrow.Author.Tests.{eq-eqb, ne_eqb, le-leb, lt-leb, lt-ltb, le-ltb}
-use Rattle.messages.specs.Editions.{ours, lower}
-use Rattle.messages.specs.declared.edition.Edition.{Edition}
+use native.Mathlib.Omega.{arith}
+use Rattle.std.proofs.lemmas.Bool.Decides.{nat_tests}
+use borrow.Author.Tests.{lt-ltb, le-leb, lt-leb}
 use Rattle.gathering.specs.Gathering.{hear_identity, Gathering, gathering, six_halves, unless_last, take_as, take_page, none_gathered, hear_svids}
 use Rattle.laptop.specs.Calls.{refused_by, accepted_with}
-use Rattle.laptop.specs.State.{is_open, gathered_list, ended, dropped, opened, with_pages, counted, gathered_to}
-use Rattle.laptop.specs.declared.Candidate.{Candidate}
+use Rattle.laptop.specs.State.{gathered_list, ended, dropped, with_pages, counted, gathered_to}
 use Rattle.laptop.specs.declared.Candidate.TheVariants.{Absent, Open, Done}
 use Rattle.laptop.specs.declared.Laptop.{Laptop}
-use Rattle.laptop.specs.declared.Step.{Step}
 use Rattle.laptop.specs.declared.Told.TheVariants.{Nothing}
 use Rattle.taking.specs.Taking.{verdict}
 use Rattle.taking.specs.declared.Verdict.{Verdict}
 use Rattle.taking.specs.declared.Verdict.TheVariants.{Bad, Repeat, More, Ends}
+use Rattle.laptop.specs.Step.{Step}
+use Rattle.messages.specs.declared.edition.Edition.{Edition}
 
 module _ (l : Laptop) where
   pub counted_more : l.pages < 255 → with_pages (l.pages + 1) l ≡ counted l
   unfolding counted
   counted_more h = rw (lt-ltb _ _ h)
 
-  pub counted_most : 255 ≤ l.pages → l ≡ counted l
+  pub counted_is : (pages : ℕ) → l.pages < 256 → pages ≡ min (l.pages + 1) 255 → with_pages pages l ≡ counted l
   unfolding counted
-  counted_most h = rw (le-ltb _ _ h)
-
--- Identity
-module _ (l : Laptop) (at : Edition) (kind n : ℕ) (objects svids identity : List ℕ) where
-  pub identity_ack : kind ≡ 1 →
-      (accepted_with Nothing (opened n (lower at ours) l) ≡ (hear_identity l at kind n objects svids identity).step) ×
-      (replicate 72 0 ≡ (hear_identity l at kind n objects svids identity).svids) ×
-      (objects ≡ (hear_identity l at kind n objects svids identity).identity)
-  unfolding hear_identity
-  identity_ack e = rw (eq-eqb _ _ e) (refl, refl, refl)
-
-  pub identity_other : (kind ≡ 1 → ⊥) →
-      (accepted_with Nothing (dropped l) ≡ (hear_identity l at kind n objects svids identity).step) ×
-      (svids ≡ (hear_identity l at kind n objects svids identity).svids) ×
-      (identity ≡ (hear_identity l at kind n objects svids identity).identity)
-  unfolding hear_identity
-  identity_other e = rw (ne_eqb _ _ e) (refl, refl, refl)
-
--- a page that does not end the list, by how many have come; what is decided, by its parts
-module _ (l : Laptop) (svids : List ℕ) (more : Gathering) where
-  pub unless_last_lem : 200 ≤ l.pages → gathering (refused_by 14 (dropped l)) svids ≡ unless_last l svids more
-  unfolding unless_last
-  unless_last_lem h = rw (le-leb _ _ h)
-
-  pub unless_early : l.pages < 200 → more ≡ unless_last l svids more
-  unfolding unless_last
-  unless_early h = rw (lt-leb _ _ h)
-
-pub accepted_parts : (step of : Step) (after list : List ℕ) → step ≡ of → after ≡ list → gathering step after ≡ gathering of list
-accepted_parts step of after list es ea = ap₂ gathering es ea
+  counted_is pages h e = grind (arith, nat_tests)
 
 -- a page, by the verdict on it and the list that is gathered
 module _ (l : Laptop) (svids values list : List ℕ) (gathered : list ≡ gathered_list l svids) (v : Verdict) (judged : v ≡ verdict list values) where
@@ -66,20 +37,6 @@ module _ (l : Laptop) (svids values list : List ℕ) (gathered : list ≡ gather
   as_judged w e =
       ap (λ (x : List ℕ). take_as l svids values (length x) (verdict x values)) (sym gathered) ∙
       ap (take_as l svids values (length list)) (sym judged ∙ e)
-
-  pub take_bad : v ≡ Bad → take_page l svids values ≡ gathering (refused_by 8 (dropped l)) svids
-  unfolding take_as
-  take_bad e = as_judged Bad e
-
-  pub judged_repeat : v ≡ Repeat → take_page l svids values ≡ unless_last l svids (gathering (accepted_with Nothing (ended l)) svids)
-  unfolding take_as
-  judged_repeat e = as_judged Repeat e
-
-  pub judged_full : v ≡ More →
-      take_page l svids values ≡
-      unless_last l svids (gathering (accepted_with Nothing (gathered_to Open (length list + 12) l)) (sets svids (length list) values))
-  unfolding take_as
-  judged_full e = as_judged More e
 
   pub take_repeat : v ≡ Repeat → l.pages < 200 → take_page l svids values ≡ gathering (accepted_with Nothing (ended l)) svids
   unfolding take_as unless_last
@@ -107,51 +64,57 @@ module _ (l : Laptop) (svids values list : List ℕ) (gathered : list ≡ gather
 pub parts : (g h : Gathering) → g ≡ h → (h.step ≡ g.step) × (h.svids ≡ g.svids)
 parts g h e = (ap (λ (x : Gathering). x.step) (sym e), ap (λ (x : Gathering). x.svids) (sym e))
 
--- nothing is gathered in an open list, and no other
-module _ (l : Laptop) where
-  pub none_open : l.candidate ≡ Open → eqb l.gathered.count 0 ≡ none_gathered l
-  unfolding none_gathered
-  none_open e = rw e
+-- what is refused leaves no candidate
+abbrev pub LeavesNone : Step → Type 0
+LeavesNone s = (s.refusal ≡ 0 → ⊥) → s.laptop.candidate ≡ Absent
 
-  pub none_other : (l.candidate ≡ Open → ⊥) → false ≡ none_gathered l
-  unfolding none_gathered
-  none_other k = go l.candidate k
-    where
-      go : (s : Candidate) → (s ≡ Open → ⊥) → false ≡ (is_open s && eqb l.gathered.count 0)
-      go Absent o = refl
-      go Done o = refl
-      go Open o = absurd (o refl)
+pub identity_leaves : (l : Laptop) (at : Edition) (kind n : ℕ) (objects svids identity : List ℕ) →
+    LeavesNone (hear_identity l at kind n objects svids identity).step
+unfolding hear_identity
+identity_leaves l at kind n objects svids identity = go (eqb kind 1) refl
+  where
+    go : (t : Bool) → eqb kind 1 ≡ t → LeavesNone (hear_identity l at kind n objects svids identity).step
+    go true e = rw e (λ r. absurd (r refl))
+    go false e = rw e (λ r. absurd (r refl))
 
--- SVIDs
-module _ (l : Laptop) (kind : ℕ) (values svids : List ℕ) where
-  svids_ack : kind ≡ 1 → hear_svids l kind values svids ≡ take_page (counted l) svids values
-  unfolding hear_svids
-  svids_ack e = rw (eq-eqb _ _ e)
+unless_leaves : (l : Laptop) (svids : List ℕ) (more : Gathering) → more.step.refusal ≡ 0 → LeavesNone (unless_last l svids more).step
+unfolding unless_last
+unless_leaves l svids more e = go (leb 200 l.pages) refl
+  where
+    go : (t : Bool) → leb 200 l.pages ≡ t → LeavesNone (unless_last l svids more).step
+    go true h = rw h (λ r. refl)
+    go false h = rw h (λ r. absurd (r e))
 
-  pub svids_page : kind ≡ 1 → (m : Laptop) (came : List ℕ) (step : Step) (after : List ℕ) → m ≡ counted l → came ≡ values →
-      step ≡ (take_page m svids came).step → after ≡ (take_page m svids came).svids →
-      (step ≡ (hear_svids l kind values svids).step) × (after ≡ (hear_svids l kind values svids).svids)
-  svids_page e m came step after em ev es ea =
-      let page : take_page m svids came ≡ hear_svids l kind values svids = ap₂ (λ (x : Laptop) (y : List ℕ). take_page x svids y) em ev ∙ sym (svids_ack e) in
-      (es ∙ ap (λ (g : Gathering). g.step) page, ea ∙ ap (λ (g : Gathering). g.svids) page)
+taken_leaves : (l : Laptop) (svids values : List ℕ) (n : ℕ) (v : Verdict) → LeavesNone (take_as l svids values n v).step
+unfolding take_as
+taken_leaves l svids values n Bad = λ r. refl
+taken_leaves l svids values n Repeat = unless_leaves l svids _ refl
+taken_leaves l svids values n More = unless_leaves l svids _ refl
+taken_leaves l svids values n (Ends k) = λ r. absurd (r refl)
 
-  pub svids_busy : kind ≡ 3 → hear_svids l kind values svids ≡ gathering (accepted_with Nothing (ended l)) svids
-  unfolding hear_svids
-  svids_busy e = rw e
-
-  pub svids_empty : (kind ≡ 1 → ⊥) → (kind ≡ 3 → ⊥) → none_gathered l ≡ true →
-      hear_svids l kind values svids ≡ gathering (accepted_with Nothing (gathered_to Done 0 l)) svids
-  unfolding hear_svids
-  svids_empty a b e = rw (ne_eqb _ _ a, ne_eqb _ _ b, e)
-
-  pub svids_void : (kind ≡ 1 → ⊥) → (kind ≡ 3 → ⊥) → none_gathered l ≡ false →
-      hear_svids l kind values svids ≡ gathering (refused_by 8 (dropped l)) svids
-  unfolding hear_svids
-  svids_void a b e = rw (ne_eqb _ _ a, ne_eqb _ _ b, e)
+pub svids_leave : (l : Laptop) (kind : ℕ) (values svids : List ℕ) → LeavesNone (hear_svids l kind values svids).step
+unfolding hear_svids take_page
+svids_leave l kind values svids = go (eqb kind 1) (eqb kind 3) (none_gathered l) refl refl refl
+  where
+    go : (t u v : Bool) → eqb kind 1 ≡ t → eqb kind 3 ≡ u → none_gathered l ≡ v → LeavesNone (hear_svids l kind values svids).step
+    go true u v a b n = rw a (taken_leaves (counted l) svids values _ _)
+    go false true v a b n = rw (a, b) (λ r. absurd (r refl))
+    go false false true a b n = rw (a, b, n) (λ r. absurd (r refl))
+    go false false false a b n = rw (a, b, n) (λ r. refl)
 
 -- six objects are twelve values
-pub six_values : (o : List ℕ) (a b c d e f g h i j k m : ℕ) → a ≡ get_or o 0 0 / 65536 → b ≡ get_or o 0 0 % 65536 → c ≡ get_or o 1 0 / 65536 →
-    d ≡ get_or o 1 0 % 65536 → e ≡ get_or o 2 0 / 65536 → f ≡ get_or o 2 0 % 65536 → g ≡ get_or o 3 0 / 65536 → h ≡ get_or o 3 0 % 65536 →
-    i ≡ get_or o 4 0 / 65536 → j ≡ get_or o 4 0 % 65536 → k ≡ get_or o 5 0 / 65536 → m ≡ get_or o 5 0 % 65536 →
-    a ∷ b ∷ c ∷ d ∷ e ∷ f ∷ g ∷ h ∷ i ∷ j ∷ k ∷ m ∷ [] ≡ six_halves o
-six_values o a b c d e f g h i j k m ea eb ec ed ee ef eg eh ei ej ek em = rw (ea, eb, ec, ed, ee, ef, eg, eh, ei, ej, ek, em)
+pub value_is : (o : List ℕ) (place : ℕ) → place < 12 →
+    get_or (six_halves o) place 0 ≡ cond (eqb (place % 2) 0) (get_or o (place / 2) 0 / 65536) (get_or o (place / 2) 0 % 65536)
+value_is o zero h = refl
+value_is o (suc zero) h = refl
+value_is o (suc (suc zero)) h = refl
+value_is o (suc (suc (suc zero))) h = refl
+value_is o (suc (suc (suc (suc zero)))) h = refl
+value_is o (suc (suc (suc (suc (suc zero))))) h = refl
+value_is o (suc (suc (suc (suc (suc (suc zero)))))) h = refl
+value_is o (suc (suc (suc (suc (suc (suc (suc zero))))))) h = refl
+value_is o (suc (suc (suc (suc (suc (suc (suc (suc zero)))))))) h = refl
+value_is o (suc (suc (suc (suc (suc (suc (suc (suc (suc zero))))))))) h = refl
+value_is o (suc (suc (suc (suc (suc (suc (suc (suc (suc (suc zero)))))))))) h = refl
+value_is o (suc (suc (suc (suc (suc (suc (suc (suc (suc (suc (suc zero))))))))))) h = refl
+value_is o (suc (suc (suc (suc (suc (suc (suc (suc (suc (suc (suc (suc n)))))))))))) h = absurd (omega arith)

@@ -13,7 +13,7 @@ use Rattle.laptop.specs.Calls.{refused_by, accepted_with}
 use Rattle.laptop.specs.State.{is_open, gathered_list, ended, dropped, opened, counted, gathered_to}
 use Rattle.laptop.specs.declared.Candidate.TheVariants.{Open, Done}
 use Rattle.laptop.specs.declared.Laptop.{Laptop}
-use Rattle.laptop.specs.declared.Step.{Step}
+use Rattle.laptop.specs.Step.{Step}
 use Rattle.laptop.specs.declared.Told.TheVariants.{Nothing}
 
 -- Identity: an ACK opens an empty list, and the lower of its edition and ours is used from now on; NAK or BUSY leaves no candidate

@@ -1,26 +1,26 @@
 // Answers that gather the list: Identity and SVIDs.
-ghost use Rattle.std.specs.Prelude.{◌≡◌, List, ℕ, ◌+◌, ◌*◌, ◌/◌, ◌%◌, ◌≤◌, length, take};
+ghost use Rattle.std.specs.Prelude.{◌≡◌, List, ℕ, ◌+◌, ◌*◌, ◌<◌, ◌≤◌, length, take, get_or};
 ghost use Rattle.std.proofs.lemmas.List.Edits.{sets};
 ghost use Rattle.gathering.specs.Gathering.{OpeningIs, hear_identity, GatheringIs, gathering, unless_last, full_page, six_halves, none_gathered, hear_svids};
 ghost use Rattle.gathering.specs.Gathering.{take_page as Gathering·takePage};
 ghost use Rattle.laptop.specs.Calls.{accepted_with};
 ghost use Rattle.laptop.specs.State.{ended, gathered_to};
+ghost use Rattle.laptop.specs.Step.{stepped};
 ghost use Rattle.laptop.specs.State.{opened as State·opened};
 ghost use Rattle.laptop.specs.State.{counted as State·counted};
 ghost use Rattle.laptop.specs.declared.Candidate.TheVariants.{Done};
 ghost use Rattle.laptop.specs.declared.Told.TheVariants.{Nothing};
 
 use crate::MOST_PAGES;
-use laptop::{Candidate, Laptop, Size, Step, Told, Wait, accepted, dropped, ended, refused};
-use messages::{ACK, BUSY, Edition, OURS, lower};
-use pages::first_svids;
+use laptop::{Accepted, Candidate, Laptop, Refused, Size, Told, accept, dropped, ended, refuse};
+use messages::{ACK, BUSY, Edition, OURS, Refusal, first, lower};
 use taking::Verdict;
 
 fn opened(extent: u8, edition: Edition, laptop: Laptop) -> Laptop
     ensures { result ≡ State·opened extent edition laptop }
 {
     Laptop {
-        wait: Wait::Nothing,
+        wait: None,
         candidate: Candidate::Open,
         gathered: Size { extent, count: 0 },
         stored: 0,
@@ -30,6 +30,7 @@ fn opened(extent: u8, edition: Edition, laptop: Laptop) -> Laptop
 }
 
 // An ACK opens an empty list, and the lower of its edition and ours is used from now on; NAK or BUSY leaves no candidate.
+#[tactic(auto, unfolding(crate::specs::Gathering::hear_identity))]
 pub fn hear_identity(
     laptop: Laptop,
     edition: Edition,
@@ -38,73 +39,65 @@ pub fn hear_identity(
     objects: &[u32; 6],
     svids: &mut [u16; 72],
     identity: &mut [u32; 6],
-) -> Step
-    ensures { OpeningIs (hear_identity laptop edition kind count objects.now svids.old identity.old) result svids.new identity.new }
+) -> Result<Accepted, Refused>
+    ensures { OpeningIs (hear_identity laptop edition kind count objects.now svids.old identity.old) (stepped result) svids.new identity.new }
 {
     if kind != ACK {
-        return accepted(Told::Nothing, dropped(laptop));
+        return accept(Told::Nothing, dropped(laptop));
     }
     *svids = [0u16; 72];
     *identity = *objects;
-    accepted(Told::Nothing, opened(count, lower(edition, OURS), laptop))
+    accept(Told::Nothing, opened(count, lower(edition, OURS), laptop))
 }
 
 // The page count goes up by 1, and stays at the greatest number there is.
+#[tactic(auto, using(crate::proofs::Listing::counted_is))]
 fn counted(laptop: Laptop) -> Laptop
     ensures { result ≡ State·counted laptop }
 {
-    let pages = laptop.pages;
-    if pages < 255 {
-        return Laptop {
-            pages: pages + 1,
-            ..laptop
-        };
+    Laptop {
+        pages: laptop.pages.saturating_add(1),
+        ..laptop
     }
-    laptop
 }
 
 fn gathered_to(candidate: Candidate, count: u8, laptop: Laptop) -> Laptop
     ensures { result ≡ gathered_to candidate count laptop }
 {
-    let extent = laptop.gathered.extent;
     Laptop {
-        wait: Wait::Nothing,
+        wait: None,
         candidate,
-        gathered: Size { extent, count },
+        gathered: Size {
+            count,
+            ..laptop.gathered
+        },
         ..laptop
     }
 }
 
-fn high_half(object: u32) -> u16
-    ensures { result ≡ object / 65536 }
+// The value at a place of the values of six objects: two each, the first in the high half.
+#[tactic(auto, using(crate::proofs::Listing::value_is))]
+fn value_at(objects: [u32; 6], place: usize) -> u16
+    requires { place < 12 }
+    ensures { result ≡ get_or (six_halves objects) place 0 }
 {
-    (object / 65536) as u16
-}
-
-fn low_half(object: u32) -> u16
-    ensures { result ≡ object % 65536 }
-{
-    (object % 65536) as u16
+    let object = objects[place / 2];
+    if place % 2 == 0 {
+        (object / 65536) as u16
+    } else {
+        (object % 65536) as u16
+    }
 }
 
 // The values of six objects, two each.
-fn values_of(o: [u32; 6]) -> [u16; 12]
-    ensures { result ≡ six_halves o }
+fn values_of(objects: [u32; 6]) -> [u16; 12]
+    ensures { result ≡ six_halves objects }
 {
-    [
-        high_half(o[0]),
-        low_half(o[0]),
-        high_half(o[1]),
-        low_half(o[1]),
-        high_half(o[2]),
-        low_half(o[2]),
-        high_half(o[3]),
-        low_half(o[3]),
-        high_half(o[4]),
-        low_half(o[4]),
-        high_half(o[5]),
-        low_half(o[5]),
-    ]
+    let mut values = [0u16; 12];
+    for place in 0..12 {
+        values[place] = value_at(objects, place);
+    }
+    values
 }
 
 // Puts values behind the first n.
@@ -112,58 +105,68 @@ fn put_values(svids: &mut [u16; 72], n: usize, values: &[u16])
     requires { n + length values.now ≤ 72 }
     ensures { svids.new ≡ sets svids.old n values.now }
 {
-    let mut i = 0;
-    while i < values.len() {
-        svids[n + i] = values[i];
-        i += 1;
-    }
+    svids[n..n + values.len()].copy_from_slice(values);
 }
 
 // A repeat adds nothing; as the 200th page it is refused.
-fn take_repeat(laptop: Laptop) -> Step
-    ensures { (svids : List ℕ) → gathering result svids ≡ unless_last laptop svids (gathering (accepted_with Nothing (ended laptop)) svids) }
+#[tactic(auto, unfolding(crate::specs::Gathering::unless_last))]
+fn take_repeat(laptop: Laptop) -> Result<Accepted, Refused>
+    ensures { (svids : List ℕ) → gathering (stepped result) svids ≡ unless_last laptop svids (gathering (accepted_with Nothing (ended laptop)) svids) }
 {
     if MOST_PAGES <= laptop.pages {
-        return refused(14, dropped(laptop));
+        return refuse(Refusal::Endless, dropped(laptop));
     }
-    accepted(Told::Nothing, ended(laptop))
+    accept(Told::Nothing, ended(laptop))
 }
 
 // A full page leaves the list open; as the 200th page it is refused.
-fn take_full(laptop: Laptop, n: usize, values: &[u16], svids: &mut [u16; 72]) -> Step
+#[tactic(auto, unfolding(crate::specs::Gathering::unless_last))]
+fn take_full(
+    laptop: Laptop,
+    n: usize,
+    values: &[u16],
+    svids: &mut [u16; 72],
+) -> Result<Accepted, Refused>
     requires { (length values.now ≡ 12) × (n + length values.now ≤ 72) }
-    ensures { gathering result svids.new ≡ full_page laptop svids.old values.now n }
+    ensures { gathering (stepped result) svids.new ≡ full_page laptop svids.old values.now n }
 {
     if MOST_PAGES <= laptop.pages {
-        return refused(14, dropped(laptop));
+        return refuse(Refusal::Endless, dropped(laptop));
     }
     put_values(svids, n, values);
-    accepted(
+    accept(
         Told::Nothing,
         gathered_to(Candidate::Open, (n + 12) as u8, laptop),
     )
 }
 
 // The last page: its first k values end the list.
-fn take_end(laptop: Laptop, n: usize, k: u8, values: &[u16], svids: &mut [u16; 72]) -> Step
+fn take_end(
+    laptop: Laptop,
+    n: usize,
+    k: u8,
+    values: &[u16],
+    svids: &mut [u16; 72],
+) -> Result<Accepted, Refused>
     requires { (k ≤ length values.now) × (n + k ≤ 72) }
-    ensures { gathering result svids.new ≡ gathering (accepted_with Nothing (gathered_to Done (n + k) laptop)) (sets svids.old n (take k values.now)) }
+    ensures { gathering (stepped result) svids.new ≡ gathering (accepted_with Nothing (gathered_to Done (n + k) laptop)) (sets svids.old n (take k values.now)) }
 {
-    put_values(svids, n, first_svids(values, k as usize));
-    accepted(
+    put_values(svids, n, first(values, usize::from(k)));
+    accept(
         Told::Nothing,
-        gathered_to(Candidate::Done, (n as u8) + k, laptop),
+        gathered_to(Candidate::Done, n as u8 + k, laptop),
     )
 }
 
 // A page is taken: what it adds is put behind what is gathered, once it is known not to be refused.
-fn take_page(laptop: Laptop, values: &[u16], svids: &mut [u16; 72]) -> Step
-    ensures { GatheringIs (Gathering·takePage laptop svids.old values.now) result svids.new }
+#[tactic(auto, unfolding(crate::specs::Gathering::take_page, crate::specs::Gathering::take_as))]
+fn take_page(laptop: Laptop, values: &[u16], svids: &mut [u16; 72]) -> Result<Accepted, Refused>
+    ensures { GatheringIs (Gathering·takePage laptop svids.old values.now) (stepped result) svids.new }
 {
-    let list = first_svids(svids, laptop.gathered.count as usize);
+    let list = first(svids, usize::from(laptop.gathered.count));
     let n = list.len();
     match taking::judge(list, values) {
-        Verdict::Bad => refused(8, dropped(laptop)),
+        Verdict::Bad => refuse(Refusal::BadAnswer, dropped(laptop)),
         Verdict::Repeat => take_repeat(laptop),
         Verdict::More => take_full(laptop, n, values, svids),
         Verdict::Ends(k) => take_end(laptop, n, k, values, svids),
@@ -171,36 +174,33 @@ fn take_page(laptop: Laptop, values: &[u16], svids: &mut [u16; 72]) -> Step
 }
 
 // Is the list open, and nothing gathered?
+#[tactic(auto, unfolding(crate::specs::Gathering::none_gathered))]
 fn none_gathered(laptop: Laptop) -> bool
     ensures { result ≡ none_gathered laptop }
 {
-    let candidate = laptop.candidate;
-    let Candidate::Open = candidate else {
-        return false;
-    };
-    laptop.gathered.count == 0
+    laptop.candidate == Candidate::Open && laptop.gathered.count == 0
 }
 
 // An ACK is a page; a NAK with nothing gathered makes an empty list, later it is 8; BUSY changes nothing more.
+#[tactic(auto, unfolding(crate::specs::Gathering::hear_svids))]
 pub fn hear_svids(
     laptop: Laptop,
     kind: u8,
     count: u8,
     objects: &[u32; 6],
     svids: &mut [u16; 72],
-) -> Step
-    ensures { GatheringIs (hear_svids laptop kind (take (count * 2) (six_halves objects.now)) svids.old) result svids.new }
+) -> Result<Accepted, Refused>
+    ensures { GatheringIs (hear_svids laptop kind (take (count * 2) (six_halves objects.now)) svids.old) (stepped result) svids.new }
 {
     if kind == ACK {
         let values = values_of(*objects);
-        let n = (count as usize) * 2;
-        return take_page(counted(laptop), first_svids(&values, n), svids);
+        let page = first(&values, usize::from(count) * 2);
+        take_page(counted(laptop), page, svids)
+    } else if kind == BUSY {
+        accept(Told::Nothing, ended(laptop))
+    } else if none_gathered(laptop) {
+        accept(Told::Nothing, gathered_to(Candidate::Done, 0, laptop))
+    } else {
+        refuse(Refusal::BadAnswer, dropped(laptop))
     }
-    if kind == BUSY {
-        return accepted(Told::Nothing, ended(laptop));
-    }
-    if none_gathered(laptop) {
-        return accepted(Told::Nothing, gathered_to(Candidate::Done, 0, laptop));
-    }
-    refused(8, dropped(laptop))
 }

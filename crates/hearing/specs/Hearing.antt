@@ -1,5 +1,5 @@
 -- A message that arrives at the laptop (01, "Refusal numbers" and "The laptop end").
-use Rattle.std.specs.Prelude.{◌≡◌, ℕ, Bool, true, false, cond, ◌&&◌, List, eqb, length, get_or, take}
+use Rattle.std.specs.Prelude.{◌≡◌, ℕ, Bool, true, false, cond, ◌&&◌, List, eqb, length, get_or, take, Option, Some, None}
 use Rattle.laws.specs.Padded.{padded}
 use Rattle.messages.specs.Layout.{req, ack, busy, Message}
 use Rattle.messages.specs.Reading.{Outcome, accepted, refused, read_outcome}
@@ -14,10 +14,9 @@ use Rattle.laptop.specs.Calls.{refused_by, accepted_with, short_runs}
 use Rattle.laptop.specs.State.{Memory, memory, LentMemory, is_open, dropped, published}
 use Rattle.laptop.specs.declared.Laptop.{Laptop}
 use Rattle.laptop.specs.declared.Notice.{Notice}
-use Rattle.laptop.specs.declared.Step.{Step}
+use Rattle.laptop.specs.Step.{Step}
 use Rattle.laptop.specs.declared.Told.TheVariants.{Attention}
-use Rattle.laptop.specs.declared.Wait.{Wait}
-use Rattle.laptop.specs.declared.Wait.TheVariants.{Nothing, Answer}
+use Rattle.messages.specs.declared.request.Request.{Request}
 
 -- what a message leads to: the call's answer, and all that is lent
 pub record Result : Type 0 where
@@ -36,14 +35,14 @@ hear_request l h count object =
     cond (eqb h.command attention_command) (accepted_with (Attention (notice_of h count object)) l) (refused_by 6 l)
 
 -- answers must fit the awaited SVID, command and position
-abbrev pub fits : Wait → Head → Bool
-fits Nothing h = false
-fits (Answer r) h = same_request r (request_of h)
+abbrev pub fits : Option Request → Head → Bool
+fits None h = false
+fits (Some r) h = same_request r (request_of h)
 
 -- 6 drops the candidate when a well-formed SVIDs ACK comes while the list is open and nothing is awaited: it may have been confirmed
-abbrev pub is_idle : Wait → Bool
-is_idle Nothing = true
-is_idle (Answer r) = false
+abbrev pub is_idle : Option Request → Bool
+is_idle None = true
+is_idle (Some r) = false
 
 unfoldable pub is_late_page : Laptop → Head → Bool
 is_late_page l h = is_idle l.wait && (is_open l.candidate && (eqb h.command svids_command && eqb h.kind ack))

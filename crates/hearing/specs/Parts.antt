@@ -10,7 +10,7 @@ use Rattle.hearing.specs.Answers.{hear_modes, is_whole}
 use Rattle.hearing.specs.Hearing.{Result, only, with_opening, with_gathering, with_storing, hear_answer}
 use Rattle.laptop.specs.State.{Memory, memory, LentMemory}
 use Rattle.laptop.specs.declared.Laptop.{Laptop}
-use Rattle.laptop.specs.declared.Step.{Step}
+use Rattle.laptop.specs.Step.{Step}
 
 -- Identity, SVIDs and Modes bring a part of the candidate
 abbrev pub brings_part : ℕ → Bool

@@ -2,10 +2,10 @@
 use mathlib.Core.Path.{◌≡◌, refl}
 use mathlib.Core.Bool.{Bool, true, false, not, ◌&&◌}
 use mathlib.Core.List.{List}
-use Prim.Native.Nat.{ℕ, ◌<◌, ◌≤◌}
+use Prim.Native.Nat.{ℕ, ◌<◌}
 use native.Mathlib.Omega.{arith}
 use lib.Dec.{ltb, eqb}
-use borrow.Author.Tests.{lt-ltb, le-ltb, eq-eqb, ne_eqb, ltb-true, eqb-false, not-true}
+use borrow.Author.Tests.{lt-ltb, le-ltb, ne_eqb, ltb-true, eqb-false, not-true}
 use Rattle.laws.proofs.Lines.{and_left, and_right}
 use Rattle.pages.specs.Lists.{most_svids, is_in}
 use Rattle.laptop.specs.Catalogue.{modes_each}
@@ -43,29 +43,10 @@ module _ (w : Walk) where
   module _ (svids : List ℕ) where
     -- an SVID
     module _ (svid : ℕ) where
-      pub list_first : w.extent ≡ 0 → may_follow w svids (Svid svid) ≡ false
+      pub list_new : (w.extent ≡ 0 → ⊥) → is_bare w ≡ false → (svid ≡ 0 → ⊥) → w.count < most_svids → may_follow w svids (Svid svid) ≡ not (is_in svid svids)
       unfolding may_follow
-      list_first e = simp (zero_ltb w.extent e)
-
-      module _ (begun : w.extent ≡ 0 → ⊥) where
-        pub list_bare : is_bare w ≡ true → may_follow w svids (Svid svid) ≡ false
-        unfolding may_follow
-        list_bare bare = simp (some_ltb w.extent begun, bare)
-
-        module _ (closed : is_bare w ≡ false) where
-          pub list_zero : svid ≡ 0 → may_follow w svids (Svid svid) ≡ false
-          unfolding may_follow
-          list_zero e = simp (some_ltb w.extent begun, closed, eq-eqb svid 0 e)
-
-          module _ (some : svid ≡ 0 → ⊥) where
-            pub list_full : most_svids ≤ w.count → may_follow w svids (Svid svid) ≡ false
-            unfolding may_follow
-            list_full full = simp (some_ltb w.extent begun, closed, ne_eqb svid 0 some, le-ltb w.count most_svids full)
-
-            pub list_new : w.count < most_svids → may_follow w svids (Svid svid) ≡ not (is_in svid svids)
-            unfolding may_follow
-            list_new room =
-                simp (some_ltb w.extent begun, closed, ne_eqb svid 0 some, lt-ltb w.count most_svids room) (and_true (not (is_in svid svids)))
+      list_new begun closed some room =
+          simp (some_ltb w.extent begun, closed, ne_eqb svid 0 some, lt-ltb w.count most_svids room) (and_true (not (is_in svid svids)))
 
       -- where it may follow, all of this holds
       pub listed_as : may_follow w svids (Svid svid) ≡ true → Listed w svids svid
@@ -89,10 +70,6 @@ module _ (w : Walk) where
 
     -- a mode
     module _ (mode : ℕ) where
-      pub add_none : w.count ≡ 0 → may_follow w svids (Mode mode) ≡ false
-      unfolding may_follow
-      add_none e = simp (zero_ltb w.count e)
-
       pub add_some : (w.count ≡ 0 → ⊥) → may_follow w svids (Mode mode) ≡ ltb w.last modes_each
       unfolding may_follow
       add_some some = simp (some_ltb w.count some) (and_true (ltb w.last modes_each))
@@ -105,10 +82,6 @@ module _ (w : Walk) where
           (ltb-true 0 w.count (and_left a (b && true) e), ltb-true w.last modes_each (and_left b true (and_right a (b && true) e)))
 
     -- the end
-    pub end_first : w.extent ≡ 0 → may_follow w svids End ≡ false
-    unfolding may_follow
-    end_first e = simp (zero_ltb w.extent e)
-
     pub end_closed : (w.extent ≡ 0 → ⊥) → may_follow w svids End ≡ not (is_bare w)
     unfolding may_follow
     end_closed begun = simp (some_ltb w.extent begun) (and_true (not (is_bare w)))

@@ -6,7 +6,7 @@ use Prim.Native.Nat.{ℕ}
 use Rattle.laws.proofs.Tight.{one_value}
 use Rattle.judging.specs.Judging.{FileJudged}
 use Rattle.judging.specs.Walking.{is_bare}
-use Rattle.judging.specs.declared.Judged.{Judged}
+use Rattle.judging.specs.Judging.{Judged}
 use Rattle.judging.specs.declared.walk.Walk.{Walk}
 
 pub judge_only : (bytes : List ℕ) (result other : Judged) (svids svids' numbers numbers' : List ℕ) → FileJudged bytes result svids numbers →

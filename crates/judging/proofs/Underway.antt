@@ -8,20 +8,28 @@ use lib.Dec.{ltb}
 use lib.ListN.{length, take, drop, replicate, length-drop, length-replicate, drop_of_length-le}
 use lib.Seq.{drop-drop, take-append_seam}
 use borrow.Author.Tests.{lt-ltb, le-ltb}
+use Rattle.std.specs.Prelude.{Err}
 use Rattle.laws.proofs.Stores.{sets_front}
+use Rattle.messages.specs.Refusals.{number_of}
 use Rattle.pages.specs.Lists.{most_svids}
 use Rattle.laptop.specs.Catalogue.{Catalogue}
 use Rattle.records.specs.Records.{cut_record, found_in, found_at, found_number}
-use Rattle.records.specs.declared.Found.{Found}
-use Rattle.records.specs.declared.Found.TheVariants.{Whole, Unknown, Cut, Nothing}
+use Rattle.records.specs.Records.{Found}
+use Rattle.records.specs.Records.{Whole, Unknown, Cut, Nothing}
+use Rattle.records.specs.Refused.{refusal_for}
+use Rattle.records.specs.Shown.{as_found}
 use Rattle.records.specs.declared.Record.{Record}
 use Rattle.records.specs.declared.Record.TheVariants.{Identity, Svid, Mode, End}
+use Rattle.records.specs.declared.missing.Missing.{Missing}
+use Rattle.records.specs.declared.missing.Missing.TheVariants.{Unknown as MissingUnknown}
+use Rattle.records.specs.declared.missing.Missing.TheVariants.{Cut as MissingCut}
+use Rattle.records.specs.declared.missing.Missing.TheVariants.{Nothing as MissingNothing}
 use Rattle.records.proofs.Finding.{at_within}
 use Rattle.records.proofs.Laws.{whole_length}
 use Rattle.judging.specs.Judging.{Judgement, judgement, bytes_after_end, out_of_order, ended, turn, length_of, with, walk_from, nothing_yet, judgement_of, shown_as, noted, FileJudged}
-use Rattle.judging.specs.Noting.{walk_behind, svids_noted, numbers_noted}
+use Rattle.judging.specs.Noting.{front, walk_behind, svids_noted, numbers_noted}
 use Rattle.judging.specs.Walking.{svids_of, numbers_of, all_modes, last_number, walk_of, is_end, may_follow, added}
-use Rattle.judging.specs.declared.Judged.{Judged}
+use Rattle.judging.specs.Judging.{Judged}
 use Rattle.judging.specs.declared.walk.Walk.{Walk}
 use Rattle.judging.proofs.Entries.{length_svids}
 use Rattle.judging.proofs.Walks.{BehindWalk, behind_walk}
@@ -39,10 +47,9 @@ pub record Underway (bytes svids numbers : List ℕ) (w : Walk) : Type 0 where
   pub modes_most : all_modes catalogue.entries ≤ w.at
   pub same : walk_from records w.at catalogue (drop w.at bytes) ≡ judgement_of bytes
 
-pub underway_front : (bytes : List ℕ) (w : Walk) → w ≡ record { at = 0; extent = 0; count = 0; last = 0; modes = 0 } →
-    Underway bytes (noted []) (noted []) w
+pub underway_front : (bytes svids numbers : List ℕ) (w : Walk) → w ≡ front → svids ≡ noted [] → numbers ≡ noted [] → Underway bytes svids numbers w
 unfolding walk_of last_number all_modes svids_of numbers_of judgement_of
-underway_front bytes w e = rw e (record {
+underway_front bytes svids numbers w e es en = rw (e, es, en) (record {
   catalogue = nothing_yet;
   records = suc (length bytes);
   walk_is = refl;
@@ -67,6 +74,26 @@ added_end c (Identity objects) bytes e = absurd (let z : ◌≡◌ {A = ℕ} 0 1
 added_end c (Svid svid) bytes e = absurd (let z : ◌≡◌ {A = ℕ} 0 1 = cc in omega arith)
 added_end c (Mode mode) bytes e = absurd (let z : ◌≡◌ {A = ℕ} 0 1 = cc in omega arith)
 added_end c End bytes e = refl
+
+pub other_end : (r : Record) → (r ≡ End → ⊥) → is_end r ≡ false
+other_end (Identity objects) n = refl
+other_end (Svid svid) n = refl
+other_end (Mode mode) n = refl
+other_end End n = absurd (n refl)
+
+pub the_end : (r : Record) → r ≡ End → is_end r ≡ true
+the_end r e = ap is_end e
+
+-- why none stands whole
+pub missing_whole : (missing : Missing) (r : Record) (n : ℕ) → as_found (Err missing) ≡ Whole r n → ⊥
+missing_whole MissingUnknown r n e = cc
+missing_whole MissingCut r n e = cc
+missing_whole MissingNothing r n e = cc
+
+pub missing_number : (missing : Missing) → number_of (refusal_for missing) ≡ found_number (as_found (Err missing))
+missing_number MissingUnknown = refl
+missing_number MissingCut = refl
+missing_number MissingNothing = refl
 
 -- a turn over what is not whole
 unfound : (found : Found) → ((r : Record) (n : ℕ) → found ≡ Whole r n → ⊥) → (at : ℕ) (c : Catalogue) (bytes : List ℕ) (further : Judgement) →

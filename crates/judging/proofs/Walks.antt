@@ -12,7 +12,7 @@ use Rattle.messages.proofs.Objects.{length_objects}
 use Rattle.pages.specs.Lists.{most_svids}
 use Rattle.laptop.specs.Catalogue.{Entry, Catalogue}
 use Rattle.records.specs.Records.{svid_in, mode_in, found_in}
-use Rattle.records.specs.declared.Found.TheVariants.{Whole}
+use Rattle.records.specs.Records.{Whole}
 use Rattle.records.specs.declared.Record.{Record}
 use Rattle.records.specs.declared.Record.TheVariants.{Identity, Svid, Mode, End}
 use Rattle.records.proofs.Laws.{IsWhole, whole, Told, told}

@@ -4,10 +4,10 @@ use Rattle.std.proofs.lemmas.List.Edits.{sets}
 use Rattle.pages.specs.Lists.{most_svids}
 use Rattle.laptop.specs.Catalogue.{Catalogue}
 use Rattle.records.specs.Records.{cut_record, found_in, found_number}
-use Rattle.records.specs.declared.Found.{Found}
-use Rattle.records.specs.declared.Found.TheVariants.{Whole, Unknown, Cut, Nothing}
+use Rattle.records.specs.Records.{Found}
+use Rattle.records.specs.Records.{Whole, Unknown, Cut, Nothing}
 use Rattle.judging.specs.Walking.{svids_of, numbers_of, walk_of, is_end, may_follow, added}
-use Rattle.judging.specs.declared.Judged.{Judged}
+use Rattle.judging.specs.declared.walk.Walk.{Walk}
 
 -- 17 wrong order, repeated item or limit passed; 18 bytes after the end
 abbrev pub out_of_order : ℕ
@@ -64,6 +64,11 @@ nothing_yet = record { identity = []; entries = [] }
 -- a record has at least one byte, so there are no more records than bytes, and one turn more finds that they stop
 unfoldable pub judgement_of : List ℕ → Judgement
 judgement_of bytes = walk_from (suc (length bytes)) 0 nothing_yet bytes
+
+-- 0 or the number of the first fault, and the walk as it stands there, or behind the end
+pub record Judged : Type 0 where
+  pub refusal : ℕ
+  pub walk : Walk
 
 -- what judging promises: the number and the walk, and in the arrays that it is lent the SVIDs before the fault with the numbers of their modes, and zeros
 -- behind them

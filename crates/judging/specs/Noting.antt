@@ -4,6 +4,10 @@ use Rattle.records.specs.declared.Record.{Record}
 use Rattle.records.specs.declared.Record.TheVariants.{Identity, Svid, Mode, End}
 use Rattle.judging.specs.declared.walk.Walk.{Walk}
 
+-- before any record
+abbrev pub front : Walk
+front = record { at = 0; extent = 0; count = 0; last = 0; modes = 0 }
+
 -- a record of so many bytes
 unfoldable pub walk_behind : Walk → Record → ℕ → Walk
 walk_behind w (Identity objects) n = record { at = w.at + n; extent = objects; count = w.count; last = w.last; modes = w.modes }

@@ -4,86 +4,78 @@ ghost use Rattle.judging.specs.Noting.{walk_behind, svids_noted, numbers_noted};
 ghost use Rattle.judging.specs.Walking.{may_follow};
 
 use crate::walk::Walk;
-use records::Record;
+use records::{Record, Whole};
 
-fn identified(walk: Walk, length: usize, objects: u8) -> Walk
-    requires { walk.at + length < 2 ^ 64 }
-    ensures { result ≡ walk_behind walk (Record.Identity objects) length }
-{
-    Walk {
-        at: walk.at + length,
-        extent: objects as usize,
-        ..walk
+impl Walk {
+    #[tactic(auto, unfolding(crate::specs::Noting::walk_behind))]
+    fn identified(self, length: usize, objects: u8) -> Walk
+        requires { self.at + length < 2 ^ 64 }
+        ensures { result ≡ walk_behind self (Record.Identity objects) length }
+    {
+        Walk {
+            at: self.at + length,
+            extent: usize::from(objects),
+            ..self
+        }
     }
-}
 
-fn listed(
-    walk: Walk,
-    length: usize,
-    svid: u16,
-    svids: &mut [u16; 72],
-    numbers: &mut [u8; 72],
-) -> Walk
-    requires { (walk.at + length < 2 ^ 64) × (walk.count < 72) }
-    ensures { (result ≡ walk_behind walk (Record.Svid svid) length)
-        × (svids.new ≡ set svids.old walk.count svid)
-        × (numbers.new ≡ set numbers.old walk.count 0) }
-{
-    let count = walk.count;
-    svids[count] = svid;
-    numbers[count] = 0;
-    Walk {
-        at: walk.at + length,
-        count: count + 1,
-        last: 0,
-        ..walk
+    #[tactic(auto, unfolding(crate::specs::Noting::walk_behind))]
+    fn listed(self, length: usize, svid: u16, svids: &mut [u16; 72], numbers: &mut [u8; 72]) -> Walk
+        requires { (self.at + length < 2 ^ 64) × (self.count < 72) }
+        ensures { (result ≡ walk_behind self (Record.Svid svid) length)
+            × (svids.new ≡ set svids.old self.count svid)
+            × (numbers.new ≡ set numbers.old self.count 0) }
+    {
+        svids[self.count] = svid;
+        numbers[self.count] = 0;
+        Walk {
+            at: self.at + length,
+            count: self.count + 1,
+            last: 0,
+            ..self
+        }
     }
-}
 
-fn with_mode(walk: Walk, length: usize, numbers: &mut [u8; 72]) -> Walk
-    requires { (walk.at + length < 2 ^ 64) × (0 < walk.count) × (walk.count ≤ 72) × (walk.last < 6) × (walk.modes < 2 ^ 63) }
-    ensures { (((mode : ℕ) → result ≡ walk_behind walk (Record.Mode mode) length))
-        × (numbers.new ≡ set numbers.old (walk.count - 1) (walk.last + 1)) }
-{
-    let place = walk.count - 1;
-    let last = walk.last + 1;
-    numbers[place] = last as u8;
-    Walk {
-        at: walk.at + length,
-        last,
-        modes: walk.modes + 1,
-        ..walk
+    #[tactic(auto, unfolding(crate::specs::Noting::walk_behind))]
+    fn with_mode(self, length: usize, numbers: &mut [u8; 72]) -> Walk
+        requires { (self.at + length < 2 ^ 64) × (0 < self.count) × (self.count ≤ 72) × (self.last < 6) × (self.modes < 2 ^ 63) }
+        ensures { (((mode : ℕ) → result ≡ walk_behind self (Record.Mode mode) length))
+            × (numbers.new ≡ set numbers.old (self.count - 1) (self.last + 1)) }
+    {
+        let last = self.last + 1;
+        numbers[self.count - 1] = last as u8;
+        Walk {
+            at: self.at + length,
+            last,
+            modes: self.modes + 1,
+            ..self
+        }
     }
-}
 
-fn moved(walk: Walk, length: usize) -> Walk
-    requires { walk.at + length < 2 ^ 64 }
-    ensures { result ≡ walk_behind walk Record.End length }
-{
-    Walk {
-        at: walk.at + length,
-        ..walk
+    #[tactic(auto, unfolding(crate::specs::Noting::walk_behind))]
+    fn ended(self, length: usize) -> Walk
+        requires { self.at + length < 2 ^ 64 }
+        ensures { result ≡ walk_behind self Record.End length }
+    {
+        Walk {
+            at: self.at + length,
+            ..self
+        }
     }
-}
 
-// The record may follow the walk.
-pub(crate) fn passed(
-    walk: Walk,
-    record: Record,
-    length: usize,
-    svids: &mut [u16; 72],
-    numbers: &mut [u8; 72],
-) -> Walk
-    requires { (walk.at + length < 2 ^ 64) × (walk.count ≤ 72) × (walk.modes < 2 ^ 63)
-        × ((list : List ℕ) × (may_follow walk list «record» ≡ true)) }
-    ensures { (result ≡ walk_behind walk «record» length)
-        × (svids.new ≡ svids_noted walk «record» svids.old)
-        × (numbers.new ≡ numbers_noted walk «record» numbers.old) }
-{
-    match record {
-        Record::Identity(objects) => identified(walk, length, objects),
-        Record::Svid(svid) => listed(walk, length, svid, svids, numbers),
-        Record::Mode(_) => with_mode(walk, length, numbers),
-        Record::End => moved(walk, length),
+    // The record may follow the walk.
+    pub(crate) fn passed(self, whole: Whole, svids: &mut [u16; 72], numbers: &mut [u8; 72]) -> Walk
+        requires { (self.at + whole.length < 2 ^ 64) × (self.count ≤ 72) × (self.modes < 2 ^ 63)
+            × ((list : List ℕ) × (may_follow self list whole.«record» ≡ true)) }
+        ensures { (result ≡ walk_behind self whole.«record» whole.length)
+            × (svids.new ≡ svids_noted self whole.«record» svids.old)
+            × (numbers.new ≡ numbers_noted self whole.«record» numbers.old) }
+    {
+        match whole.record {
+            Record::Identity(objects) => self.identified(whole.length, objects),
+            Record::Svid(svid) => self.listed(whole.length, svid, svids, numbers),
+            Record::Mode(_) => self.with_mode(whole.length, numbers),
+            Record::End => self.ended(whole.length),
+        }
     }
 }

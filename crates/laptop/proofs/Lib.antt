@@ -1,5 +1,4 @@
 -- Laws on the laptop's definitions, a file for each topic.
-pub mod HeldList
 pub mod Marking
 pub mod Numbers
 pub mod Steps

@@ -1,15 +1,13 @@
 -- What a call decides, and what becomes of it in the output buffer (01, "Refusal numbers").
-use Rattle.std.specs.Prelude.{◌≡◌, ℕ, Bool, true, false, cond, ◌||◌, List, ltb, eqb, length}
+use Rattle.std.specs.Prelude.{◌≡◌, ℕ, Bool, true, false, cond, ◌||◌, List, ltb, eqb, length, Option, Some, None}
 use Rattle.messages.specs.Layout.{Message, message_length}
 use Rattle.messages.specs.Writing.{write_refusal, written}
 use Rattle.laptop.specs.Catalogue.{run_words}
 use Rattle.laptop.specs.declared.Laptop.{Laptop}
-use Rattle.laptop.specs.declared.Step.{Step}
+use Rattle.laptop.specs.Step.{Step}
 use Rattle.laptop.specs.declared.Told.{Told}
 use Rattle.laptop.specs.declared.Told.TheVariants.{Nothing}
-use Rattle.laptop.specs.declared.Wait.{Wait}
-use Rattle.laptop.specs.declared.Wait.TheVariants.{Nothing as WaitNothing}
-use Rattle.laptop.specs.declared.Wait.TheVariants.{Answer}
+use Rattle.messages.specs.declared.request.Request.{Request}
 
 -- before the output buffer is looked at: a refusal and the state that it leaves; a new state, with what policy is told; a message, and the
 -- state once it is sent, whose edition is the message's
@@ -52,6 +50,6 @@ unless number l decision = cond (eqb number 0) decision (refuses number l)
 unfoldable pub short_runs : ℕ → ℕ → Bool
 short_runs run held_run = ltb run run_words || ltb held_run run_words
 
-abbrev pub is_awaiting : Wait → Bool
-is_awaiting WaitNothing = false
-is_awaiting (Answer r) = true
+abbrev pub is_awaiting : Option Request → Bool
+is_awaiting None = false
+is_awaiting (Some r) = true

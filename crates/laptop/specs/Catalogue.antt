@@ -1,8 +1,5 @@
 -- A catalogue, and where the laptop keeps it (01, "The laptop end").
-use Rattle.std.specs.Prelude.{ℕ, suc, ◌*◌, cond, List, [], ◌∷◌, leb, get_or, take, drop}
-use Rattle.laptop.specs.declared.Held.{Held}
-use Rattle.laptop.specs.declared.Held.TheVariants.{Catalogue as HeldAsCatalogue}
-use Rattle.laptop.specs.declared.Held.TheVariants.{Nothing as HeldNothing}
+use Rattle.std.specs.Prelude.{ℕ, suc, ◌*◌, cond, List, [], ◌∷◌, leb, get_or, take, drop, Option, Some, None}
 use Rattle.laptop.specs.declared.Size.{Size}
 
 -- identity objects, and SVIDs with their modes
@@ -39,6 +36,6 @@ catalogue_in size identity svids modes run =
     record { identity = take size.extent identity; entries = entries_from 0 (take size.count svids) modes run }
 
 -- the SVIDs of the held catalogue, none where nothing is held
-abbrev pub held_list : Held → List ℕ → List ℕ
-held_list HeldNothing svids = []
-held_list (HeldAsCatalogue size) svids = take size.count svids
+abbrev pub held_list : Option Size → List ℕ → List ℕ
+held_list None svids = []
+held_list (Some size) svids = take size.count svids

@@ -3,3 +3,4 @@ pub mod Calls
 pub mod Catalogue
 pub mod Marks
 pub mod State
+pub mod Step

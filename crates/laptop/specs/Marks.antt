@@ -1,10 +1,10 @@
 -- Entered modes: a set bit per position (01, "The laptop end").
-use Rattle.std.specs.Prelude.{ℕ, suc, ◌-◌, ◌%◌, ◌^◌, Bool, cond, not, ◌&&◌, List, [], ◌∷◌, leb, ltb, eqb, length, get_or, set}
+use Rattle.std.specs.Prelude.{ℕ, suc, ◌-◌, ◌%◌, ◌^◌, Bool, cond, not, ◌&&◌, List, [], ◌∷◌, leb, ltb, eqb, length, get_or, set, Option}
 use Rattle.std.specs.Int.Bits.{bit_and, bit_or}
 use Rattle.std.specs.Int.Count.{ones}
 use Rattle.messages.specs.Requests.{enter_command}
 use Rattle.laptop.specs.Catalogue.{held_list}
-use Rattle.laptop.specs.declared.Held.{Held}
+use Rattle.laptop.specs.declared.Size.{Size}
 
 -- the place of an SVID in a list, or the list's length where it is not in it
 unfoldable pub place_of : ℕ → List ℕ → ℕ
@@ -36,7 +36,7 @@ marks_after list entered svid command position =
     (set entered (place_of svid list) (marked_by command position (get_or entered (place_of svid list) 0))) entered
 
 -- the report: how many there are, 0 if not held
-unfoldable pub reported : Held → List ℕ → List ℕ → ℕ → ℕ
+unfoldable pub reported : Option Size → List ℕ → List ℕ → ℕ → ℕ
 reported held held_svids entered svid =
     cond (ltb (place_of svid (held_list held held_svids)) (length (held_list held held_svids)))
     (ones (six_bits (get_or entered (place_of svid (held_list held held_svids)) 0))) 0

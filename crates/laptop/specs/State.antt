@@ -1,5 +1,5 @@
 -- The laptop's state, and how the parts of a rule change it (01, "The laptop end"; 02, R-5).
-use Rattle.std.specs.Prelude.{ℕ, ◌+◌, Bool, true, false, cond, List, ltb, take}
+use Rattle.std.specs.Prelude.{ℕ, ◌+◌, Bool, true, false, cond, List, ltb, take, Some, None}
 use denote.Triple.Both.{Both}
 use Rattle.laws.specs.Lent.{Lent, lent, left}
 use Rattle.messages.specs.Editions.{ours}
@@ -9,10 +9,7 @@ use Rattle.messages.specs.declared.edition.Edition.{Edition}
 use Rattle.messages.specs.declared.request.Request.{Request}
 use Rattle.laptop.specs.declared.Candidate.{Candidate}
 use Rattle.laptop.specs.declared.Candidate.TheVariants.{Absent, Open, Done}
-use Rattle.laptop.specs.declared.Held.TheVariants.{Catalogue as HeldAsCatalogue}
-use Rattle.laptop.specs.declared.Held.TheVariants.{Nothing as HeldNothing}
 use Rattle.laptop.specs.declared.Laptop.{Laptop}
-use Rattle.laptop.specs.declared.Wait.TheVariants.{Nothing, Answer}
 
 -- what is lent beside the state: the candidate's SVIDs, the number of modes of each, its identity and its run of mode words, the same of the
 -- held catalogue, and the entered modes of each held SVID
@@ -57,12 +54,12 @@ memory_lent svids modes identity run held_svids held_modes held_identity held_ru
 abbrev pub fresh_laptop : Laptop
 fresh_laptop =
     record {
-      wait = Nothing;
+      wait = None;
       candidate = Absent;
       gathered = record { extent = 0; count = 0 };
       stored = 0;
       pages = 0;
-      held = HeldNothing;
+      held = None;
       edition = ours;
     }
 
@@ -80,7 +77,7 @@ gathered_list l svids = take l.gathered.count svids
 abbrev pub ended : Laptop → Laptop
 ended l =
     record {
-      wait = Nothing;
+      wait = None;
       candidate = l.candidate;
       gathered = l.gathered;
       stored = l.stored;
@@ -93,7 +90,7 @@ ended l =
 abbrev pub dropped : Laptop → Laptop
 dropped l =
     record {
-      wait = Nothing;
+      wait = None;
       candidate = Absent;
       gathered = l.gathered;
       stored = l.stored;
@@ -105,7 +102,7 @@ dropped l =
 abbrev pub awaiting : Request → Laptop → Laptop
 awaiting r l =
     record {
-      wait = Answer r;
+      wait = Some r;
       candidate = l.candidate;
       gathered = l.gathered;
       stored = l.stored;
@@ -121,7 +118,7 @@ identity_request = record { svid = pd_sid; command = identity_command; position 
 abbrev pub identity_asked : Laptop → Laptop
 identity_asked l =
     record {
-      wait = Answer identity_request;
+      wait = Some identity_request;
       candidate = Absent;
       gathered = l.gathered;
       stored = l.stored;
@@ -134,7 +131,7 @@ identity_asked l =
 abbrev pub opened : ℕ → Edition → Laptop → Laptop
 opened n e l =
     record {
-      wait = Nothing;
+      wait = None;
       candidate = Open;
       gathered = record { extent = n; count = 0 };
       stored = 0;
@@ -163,7 +160,7 @@ counted l = cond (ltb l.pages 255) (with_pages (l.pages + 1) l) l
 abbrev pub gathered_to : Candidate → ℕ → Laptop → Laptop
 gathered_to candidate n l =
     record {
-      wait = Nothing;
+      wait = None;
       candidate = candidate;
       gathered = record { extent = l.gathered.extent; count = n };
       stored = l.stored;
@@ -176,7 +173,7 @@ gathered_to candidate n l =
 abbrev pub stored_to : ℕ → Laptop → Laptop
 stored_to n l =
     record {
-      wait = Nothing;
+      wait = None;
       candidate = l.candidate;
       gathered = l.gathered;
       stored = n;
@@ -189,11 +186,11 @@ stored_to n l =
 abbrev pub published : Laptop → Laptop
 published l =
     record {
-      wait = Nothing;
+      wait = None;
       candidate = Absent;
       gathered = l.gathered;
       stored = l.stored;
       pages = l.pages;
-      held = HeldAsCatalogue l.gathered;
+      held = Some l.gathered;
       edition = l.edition;
     }

@@ -4,9 +4,11 @@ ghost use Rattle.laptop.specs.State.{fresh_laptop};
 ghost use Rattle.laptop.specs.State.{ended as State·ended};
 ghost use Rattle.laptop.specs.State.{dropped as State·dropped};
 ghost use Rattle.laptop.specs.Calls.{refused_by, accepted_with, short_runs};
+ghost use Rattle.laptop.specs.Step.{stepped};
+ghost use Rattle.messages.specs.Refusals.{number_of};
 
-use crate::{Candidate, Held, Laptop, RUN_WORDS, Size, Step, Told, Wait};
-use messages::OURS;
+use crate::{Accepted, Candidate, Laptop, RUN_WORDS, Refused, Size, Told};
+use messages::{OURS, Refusal};
 
 // A laptop that awaits, gathers and holds nothing, and has entered no mode.
 pub fn fresh(entered: &mut [u8; 72]) -> Laptop
@@ -14,7 +16,7 @@ pub fn fresh(entered: &mut [u8; 72]) -> Laptop
 {
     *entered = [0u8; 72];
     Laptop {
-        wait: Wait::Nothing,
+        wait: None,
         candidate: Candidate::Absent,
         gathered: Size {
             extent: 0,
@@ -22,38 +24,32 @@ pub fn fresh(entered: &mut [u8; 72]) -> Laptop
         },
         stored: 0,
         pages: 0,
-        held: Held::Nothing,
+        held: None,
         edition: OURS,
     }
 }
 
-pub fn refused(number: u8, laptop: Laptop) -> Step
-    ensures { result ≡ refused_by number laptop }
+pub fn refuse(refusal: Refusal, laptop: Laptop) -> Result<Accepted, Refused>
+    ensures { stepped result ≡ refused_by (number_of refusal) laptop }
 {
-    Step {
-        refusal: number,
-        length: 0,
-        told: Told::Nothing,
-        laptop,
-    }
+    Err(Refused { refusal, laptop })
 }
 
-pub fn accepted(told: Told, laptop: Laptop) -> Step
-    ensures { result ≡ accepted_with told laptop }
+pub fn accept(told: Told, laptop: Laptop) -> Result<Accepted, Refused>
+    ensures { stepped result ≡ accepted_with told laptop }
 {
-    Step {
-        refusal: 0,
+    Ok(Accepted {
         length: 0,
         told,
         laptop,
-    }
+    })
 }
 
 pub fn ended(laptop: Laptop) -> Laptop
     ensures { result ≡ State·ended laptop }
 {
     Laptop {
-        wait: Wait::Nothing,
+        wait: None,
         ..laptop
     }
 }
@@ -63,17 +59,15 @@ pub fn dropped(laptop: Laptop) -> Laptop
     ensures { result ≡ State·dropped laptop }
 {
     Laptop {
-        wait: Wait::Nothing,
+        wait: None,
         candidate: Candidate::Absent,
         ..laptop
     }
 }
 
+#[tactic(auto, unfolding(crate::specs::Calls::short_runs))]
 pub fn short_runs(run: &[u32], held_run: &[u32]) -> bool
     ensures { result ≡ short_runs (length run.now) (length held_run.now) }
 {
-    if run.len() < RUN_WORDS {
-        return true;
-    }
-    held_run.len() < RUN_WORDS
+    run.len() < RUN_WORDS || held_run.len() < RUN_WORDS
 }

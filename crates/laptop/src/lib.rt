@@ -10,20 +10,13 @@ mod calls;
 mod marks;
 mod places;
 
-pub use calls::{accepted, dropped, ended, fresh, refused, short_runs};
+pub use calls::{accept, dropped, ended, fresh, refuse, short_runs};
 pub use marks::{marked, named, report, six_bits, unmarked};
-use messages::{Edition, Request};
-pub use places::{held_list, modes_number, number_at, place_of};
-
-// Nothing is awaited, or the answer to a request.
-#[derive(Clone, Copy)]
-pub enum Wait {
-    Nothing,
-    Answer(Request),
-}
+use messages::{Edition, Refusal, Request};
+pub use places::{held_list, modes_number, place_of};
 
 // No candidate, its list is open, or its list is done and modes are missing.
-#[derive(Clone, Copy)]
+#[derive(Clone, Copy, PartialEq, Eq)]
 pub enum Candidate {
     Absent,
     Open,
@@ -31,28 +24,22 @@ pub enum Candidate {
 }
 
 // How many identity objects (the extent) and SVIDs (the count) a catalogue has.
-#[derive(Clone, Copy)]
+#[derive(Clone, Copy, PartialEq, Eq)]
 pub struct Size {
     pub extent: u8,
     pub count: u8,
 }
 
-#[derive(Clone, Copy)]
-pub enum Held {
-    Nothing,
-    Catalogue(Size),
-}
-
-// Besides what is awaited and where the candidate stands: the candidate's size, how many of its SVIDs have their modes stored, the pages counted
-// since the last Identity was sent, the held catalogue's size, and the edition of what is sent.
+// The request whose answer is awaited, where the candidate stands and its size, how many of its SVIDs have their modes stored, the pages
+// counted since the last Identity was sent, the size of the catalogue that is held, and the edition of what is sent.
 #[derive(Clone, Copy)]
 pub struct Laptop {
-    pub wait: Wait,
+    pub wait: Option<Request>,
     pub candidate: Candidate,
     pub gathered: Size,
     pub stored: u8,
     pub pages: u8,
-    pub held: Held,
+    pub held: Option<Size>,
     pub edition: Edition,
 }
 
@@ -76,12 +63,18 @@ pub enum Told {
     ProtocolError(Request),
 }
 
-// What a call gives back: the refusal number, how many bytes of the output buffer are to be sent, what policy is told, and the new state.
+// What a call gives back: how many bytes of the output buffer are to be sent, what policy is told, and the new state.
 #[derive(Clone, Copy)]
-pub struct Step {
-    pub refusal: u8,
+pub struct Accepted {
     pub length: u8,
     pub told: Told,
+    pub laptop: Laptop,
+}
+
+// Or why it refuses, and the state that it leaves.
+#[derive(Clone, Copy)]
+pub struct Refused {
+    pub refusal: Refusal,
     pub laptop: Laptop,
 }
 

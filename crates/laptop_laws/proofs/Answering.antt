@@ -39,13 +39,11 @@ use Rattle.laptop.specs.State.{Memory, memory, gathered_list, ended, dropped, op
 use Rattle.laptop_laws.specs.WellFormed.{Listed, HeldFits, CandidateFits, WaitFits, awaits_identity, EnterFits, ExitFits, ModeFits, WellFormed}
 use Rattle.laptop.specs.declared.Candidate.{Candidate}
 use Rattle.laptop.specs.declared.Candidate.TheVariants.{Absent, Open, Done}
-use Rattle.laptop.specs.declared.Held.{Held}
+use Rattle.std.specs.Prelude.{Option, Some, None}
 use Rattle.laptop.specs.declared.Laptop.{Laptop}
 use Rattle.laptop.specs.declared.Size.{Size}
-use Rattle.laptop.specs.declared.Step.{Step}
+use Rattle.laptop.specs.Step.{Step}
 use Rattle.laptop.specs.declared.Told.TheVariants.{Nothing as ToldNothing}
-use Rattle.laptop.specs.declared.Wait.{Wait}
-use Rattle.laptop.specs.declared.Wait.TheVariants.{Nothing, Answer}
 use Rattle.laptop_laws.proofs.Behind.{sets_behind, below}
 use Rattle.laptop_laws.proofs.Bits.{Set, none_entered}
 use Rattle.laptop_laws.proofs.Copies.{length_copied}
@@ -67,35 +65,35 @@ same_command r h e =
     eqb-true r.command h.command (and_left (eqb r.command h.command) _ (and_right (eqb r.svid h.svid) _ e))
 
 module _ (pages stored : ℕ) (svids : List ℕ) where
-  fits_identity : (w : Wait) (c : Candidate) (h : Head) → WaitFits w c pages stored svids → fits w h ≡ true → h.command ≡ 1 →
+  fits_identity : (w : Option Request) (c : Candidate) (h : Head) → WaitFits w c pages stored svids → fits w h ≡ true → h.command ≡ 1 →
       (pages ≡ 0) × (awaits_identity w ≡ true)
-  fits_identity Nothing c h f e k = absurd (false≢true e)
-  fits_identity (Answer r) c h (inl a) e k = (a.2, rw (same_command r h e ∙ k))
-  fits_identity (Answer r) c h (inr (inl a)) e k = absurd (omega (arith, same_command r h e, k, ap (λ (x : Request). x.command) a.0))
-  fits_identity (Answer r) c h (inr (inr (inl a))) e k = absurd (omega (arith, same_command r h e, k, ap (λ (x : Request). x.command) a.0))
-  fits_identity (Answer r) c h (inr (inr (inr a))) e k = absurd (omega (arith, same_command r h e, k, a.0))
+  fits_identity None c h f e k = absurd (false≢true e)
+  fits_identity (Some r) c h (inl a) e k = (a.2, rw (same_command r h e ∙ k))
+  fits_identity (Some r) c h (inr (inl a)) e k = absurd (omega (arith, same_command r h e, k, ap (λ (x : Request). x.command) a.0))
+  fits_identity (Some r) c h (inr (inr (inl a))) e k = absurd (omega (arith, same_command r h e, k, ap (λ (x : Request). x.command) a.0))
+  fits_identity (Some r) c h (inr (inr (inr a))) e k = absurd (omega (arith, same_command r h e, k, a.0))
 
-  fits_svids : (w : Wait) (c : Candidate) (h : Head) → WaitFits w c pages stored svids → fits w h ≡ true → h.command ≡ 2 → c ≡ Open
-  fits_svids Nothing c h f e k = absurd (false≢true e)
-  fits_svids (Answer r) c h (inl a) e k = absurd (omega (arith, same_command r h e, k, ap (λ (x : Request). x.command) a.0))
-  fits_svids (Answer r) c h (inr (inl a)) e k = a.1
-  fits_svids (Answer r) c h (inr (inr (inl a))) e k = absurd (omega (arith, same_command r h e, k, ap (λ (x : Request). x.command) a.0))
-  fits_svids (Answer r) c h (inr (inr (inr a))) e k = absurd (omega (arith, same_command r h e, k, a.0))
+  fits_svids : (w : Option Request) (c : Candidate) (h : Head) → WaitFits w c pages stored svids → fits w h ≡ true → h.command ≡ 2 → c ≡ Open
+  fits_svids None c h f e k = absurd (false≢true e)
+  fits_svids (Some r) c h (inl a) e k = absurd (omega (arith, same_command r h e, k, ap (λ (x : Request). x.command) a.0))
+  fits_svids (Some r) c h (inr (inl a)) e k = a.1
+  fits_svids (Some r) c h (inr (inr (inl a))) e k = absurd (omega (arith, same_command r h e, k, ap (λ (x : Request). x.command) a.0))
+  fits_svids (Some r) c h (inr (inr (inr a))) e k = absurd (omega (arith, same_command r h e, k, a.0))
 
-  fits_modes : (w : Wait) (c : Candidate) (h : Head) → WaitFits w c pages stored svids → fits w h ≡ true → h.command ≡ 3 → c ≡ Done
-  fits_modes Nothing c h f e k = absurd (false≢true e)
-  fits_modes (Answer r) c h (inl a) e k = absurd (omega (arith, same_command r h e, k, ap (λ (x : Request). x.command) a.0))
-  fits_modes (Answer r) c h (inr (inl a)) e k = absurd (omega (arith, same_command r h e, k, ap (λ (x : Request). x.command) a.0))
-  fits_modes (Answer r) c h (inr (inr (inl a))) e k = a.1
-  fits_modes (Answer r) c h (inr (inr (inr a))) e k = absurd (omega (arith, same_command r h e, k, a.0))
+  fits_modes : (w : Option Request) (c : Candidate) (h : Head) → WaitFits w c pages stored svids → fits w h ≡ true → h.command ≡ 3 → c ≡ Done
+  fits_modes None c h f e k = absurd (false≢true e)
+  fits_modes (Some r) c h (inl a) e k = absurd (omega (arith, same_command r h e, k, ap (λ (x : Request). x.command) a.0))
+  fits_modes (Some r) c h (inr (inl a)) e k = absurd (omega (arith, same_command r h e, k, ap (λ (x : Request). x.command) a.0))
+  fits_modes (Some r) c h (inr (inr (inl a))) e k = a.1
+  fits_modes (Some r) c h (inr (inr (inr a))) e k = absurd (omega (arith, same_command r h e, k, a.0))
 
-  fits_mode : (w : Wait) (c : Candidate) (h : Head) → WaitFits w c pages stored svids → fits w h ≡ true → (h.command ≡ 1 → ⊥) →
+  fits_mode : (w : Option Request) (c : Candidate) (h : Head) → WaitFits w c pages stored svids → fits w h ≡ true → (h.command ≡ 1 → ⊥) →
       (h.command ≡ 2 → ⊥) → (h.command ≡ 3 → ⊥) → (4 ≤ h.command) × (c ≡ Absent)
-  fits_mode Nothing c h f e x y z = absurd (false≢true e)
-  fits_mode (Answer r) c h (inl a) e x y z = absurd (x (sym (same_command r h e) ∙ ap (λ (q : Request). q.command) a.0))
-  fits_mode (Answer r) c h (inr (inl a)) e x y z = absurd (y (sym (same_command r h e) ∙ ap (λ (q : Request). q.command) a.0))
-  fits_mode (Answer r) c h (inr (inr (inl a))) e x y z = absurd (z (sym (same_command r h e) ∙ ap (λ (q : Request). q.command) a.0))
-  fits_mode (Answer r) c h (inr (inr (inr a))) e x y z = (omega (arith, same_command r h e, a.0), a.1)
+  fits_mode None c h f e x y z = absurd (false≢true e)
+  fits_mode (Some r) c h (inl a) e x y z = absurd (x (sym (same_command r h e) ∙ ap (λ (q : Request). q.command) a.0))
+  fits_mode (Some r) c h (inr (inl a)) e x y z = absurd (y (sym (same_command r h e) ∙ ap (λ (q : Request). q.command) a.0))
+  fits_mode (Some r) c h (inr (inr (inl a))) e x y z = absurd (z (sym (same_command r h e) ∙ ap (λ (q : Request). q.command) a.0))
+  fits_mode (Some r) c h (inr (inr (inr a))) e x y z = (omega (arith, same_command r h e, a.0), a.1)
 
 -- before anything is published: as well-formed, with nothing awaited and no mode entered; modes may be complete
 abbrev Nearly : Candidate → Size → ℕ → ℕ → List ℕ → List ℕ → Type 0
@@ -149,7 +147,7 @@ unless_busy kind r busy other = go (eqb kind 3) refl
 -- what is lent and held, and the entered sets, while a list or modes come
 module _ (l : Laptop) (m : Memory) (w : WellFormed l m) (none : any_entered m.entered ≡ false) where
   module _ (s : Step) (svids modes run : List ℕ) (sv : length svids ≡ 72) (mo : length modes ≡ 72) (ru : 432 ≤ length run)
-      (idle : s.laptop.wait ≡ Nothing) (held : s.laptop.held ≡ l.held)
+      (idle : s.laptop.wait ≡ None) (held : s.laptop.held ≡ l.held)
       (near : Nearly s.laptop.candidate s.laptop.gathered s.laptop.pages s.laptop.stored svids modes) where
     abbrev came : Result
     came =
@@ -182,14 +180,14 @@ module _ (l : Laptop) (m : Memory) (w : WellFormed l m) (none : any_entered m.en
     left_formed e =
         record {
           lent = record { svids_size = sv; modes_size = mo; run_size = ru; held_run_size = w.lent.held_run_size };
-          held_fits = subst (λ (h : Held). HeldFits h m.held_svids m.held_modes) (sym held) w.held_fits;
+          held_fits = subst (λ (h : Option Size). HeldFits h m.held_svids m.held_modes) (sym held) w.held_fits;
           candidate_fits = missing s.laptop.candidate s.laptop.gathered s.laptop.pages s.laptop.stored svids modes e near;
           wait_fits =
-              subst (λ (x : Wait). WaitFits x s.laptop.candidate s.laptop.pages s.laptop.stored svids) (sym idle) tt;
+              subst (λ (x : Option Request). WaitFits x s.laptop.candidate s.laptop.pages s.laptop.stored svids) (sym idle) tt;
           none_entered = λ a. none;
           sets_fit = w.sets_fit;
           entered_held = λ i p x. absurd (none_entered m.entered none i p x);
-          mode_fits = subst (λ (x : Wait). ModeFits x s.laptop came.after) (sym idle) tt;
+          mode_fits = subst (λ (x : Option Request). ModeFits x s.laptop came.after) (sym idle) tt;
         }
 
     whole_true : is_whole s.laptop ≡ true →
@@ -218,7 +216,7 @@ module _ (l : Laptop) (m : Memory) (w : WellFormed l m) (none : any_entered m.en
   -- a page: what it leads to, with the page counted
   abbrev PageNear : Laptop → Gathering → Type 0
   PageNear x g =
-      (length g.svids ≡ 72) × (g.step.laptop.wait ≡ Nothing) × (g.step.laptop.held ≡ x.held) ×
+      (length g.svids ≡ 72) × (g.step.laptop.wait ≡ None) × (g.step.laptop.held ≡ x.held) ×
       Nearly g.step.laptop.candidate g.step.laptop.gathered g.step.laptop.pages g.step.laptop.stored g.svids m.modes
 
   page_either : (x : Laptop) (t : Bool) (a b : Gathering) → (t ≡ true → PageNear x a) → (t ≡ false → PageNear x b) → PageNear x (cond t a b)
@@ -343,7 +341,7 @@ module _ (l : Laptop) (m : Memory) (w : WellFormed l m) (none : any_entered m.en
   -- Modes, with the list done
   abbrev FillNear : Storing → Type 0
   FillNear f =
-      (length f.modes ≡ 72) × (432 ≤ length f.run) × (f.step.laptop.wait ≡ Nothing) × (f.step.laptop.held ≡ l.held) ×
+      (length f.modes ≡ 72) × (432 ≤ length f.run) × (f.step.laptop.wait ≡ None) × (f.step.laptop.held ≡ l.held) ×
       Nearly f.step.laptop.candidate f.step.laptop.gathered f.step.laptop.pages f.step.laptop.stored m.svids f.modes
 
   store_either : (t : Bool) (a b : Storing) → (t ≡ true → FillNear a) → FillNear b → FillNear (cond t a b)
@@ -526,13 +524,13 @@ module _ (l : Laptop) (m : Memory) (w : WellFormed l m) where
       }
 
   -- an awaited Enter names a held mode, so that it may be marked
-  module _ (r : Request) (least : 4 ≤ r.command) (awaited : l.wait ≡ Answer r) where
+  module _ (r : Request) (least : 4 ≤ r.command) (awaited : l.wait ≡ Some r) where
     enters : EnterFits r l m ⊎ ExitFits r l m → r.command ≡ 4 → (place_of r.svid held < length held) × OneOf m.held_modes r.position (place_of r.svid held)
     enters (inl f) e = there held r.svid (OneOf m.held_modes r.position) (f.1.0, f.1.1, f.1.2)
     enters (inr f) e = absurd (omega (arith, e, f.0))
 
     entered_at : r.command ≡ 4 → (place_of r.svid held < length held) × OneOf m.held_modes r.position (place_of r.svid held)
-    entered_at = enters (subst (λ (x : Wait). ModeFits x l m) awaited w.mode_fits least)
+    entered_at = enters (subst (λ (x : Option Request). ModeFits x l m) awaited w.mode_fits least)
 
     marks_held : (i p : ℕ) → Set (get_or (marks_after held m.entered r.svid r.command r.position) i 0) p →
         (i < length held) × OneOf m.held_modes p i

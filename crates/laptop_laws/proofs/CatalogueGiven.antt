@@ -8,7 +8,7 @@ use lib.Dec.{ltb}
 use lib.ListN.{length}
 use Rattle.laptop.specs.Catalogue.{run_words}
 use Rattle.catalogue.specs.Bytes.{catalogue_bytes, least_objects, HeldCatalogue, nothing, holding, size_refusal, held_refusal, catalogue_refusal, CatalogueWritten}
-use Rattle.catalogue.specs.declared.Bytes.{Bytes}
+use Rattle.catalogue.specs.Bytes.{Bytes}
 use Rattle.laptop_laws.specs.CatalogueGiven.{NoneHeld, TooShortFor, catalogue_lines}
 use Rattle.laptop_laws.specs.Given.{◌when◌, First}
 use Rattle.laptop_laws.proofs.First.{tells_ltb, first_test, first_only, none_first}

@@ -23,11 +23,10 @@ use Rattle.laptop.specs.State.{Memory, dropped, counted}
 use Rattle.owner.specs.Owner.{request_message, decide_drop, decide_enter, decide_exit}
 use Rattle.timers.specs.Timers.{over, decide_timer, decide_error}
 use Rattle.laptop.specs.declared.Laptop.{Laptop}
-use Rattle.laptop.specs.declared.Step.{Step}
+use Rattle.laptop.specs.Step.{Step}
 use Rattle.laptop.specs.declared.Told.{Told}
 use Rattle.laptop.specs.declared.Told.TheVariants.{Timer, ProtocolError}
-use Rattle.laptop.specs.declared.Wait.{Wait}
-use Rattle.laptop.specs.declared.Wait.TheVariants.{Nothing, Answer}
+use Rattle.std.specs.Prelude.{Option, Some, None}
 use Rattle.laptop_laws.specs.Editions.{Said, nothing, acknowledged, edition_by, is_awaited_ack, acknowledgement, edition_after, request_edition, SentAt}
 use Rattle.laptop_laws.specs.Effects.{Call, message, next, start_over, drop, enter, exit, timer, protocol_error, decided, effect_of}
 use Rattle.laptop_laws.specs.Refusing.{brings_page, brings_late_page, left_by}
@@ -125,17 +124,17 @@ module _ (l : Laptop) (m : Memory) (out : List ℕ) where
   unfolding decide_timer
   timer_keeps first last = step_keeps l _ (length out) (go l.wait)
     where
-      go : (w : Wait) → Keeps l (decide_timer first last l w)
-      go Nothing = refl
-      go (Answer r) = either l (leb first r.command && leb r.command last) _ _ (over_keeps l r (Timer r)) refl
+      go : (w : Option Request) → Keeps l (decide_timer first last l w)
+      go None = refl
+      go (Some r) = either l (leb first r.command && leb r.command last) _ _ (over_keeps l r (Timer r)) refl
 
   pub error_keeps : (effect_of protocol_error l m out).step.laptop.edition ≡ l.edition
   unfolding decide_error
   error_keeps = step_keeps l _ (length out) (go l.wait)
     where
-      go : (w : Wait) → Keeps l (decide_error l w)
-      go Nothing = refl
-      go (Answer r) = over_keeps l r (ProtocolError r)
+      go : (w : Option Request) → Keeps l (decide_error l w)
+      go None = refl
+      go (Some r) = over_keeps l r (ProtocolError r)
 
 -- what is sent, and at which edition
 first_bytes : (at : Edition) (r : Request) (out : List ℕ) → write_refusal (request_message r) (length out) ≡ 0 →
@@ -148,7 +147,7 @@ first_bytes at r out e =
 abbrev Sends : Laptop → List ℕ → Memory → Decision → Type 0
 Sends l out m d = 0 < (step_of l d (length out)).length → (r : Request) × SentAt (request_edition r l.edition) r (decided l m out d)
 
-request_sent : (l after : Laptop) (m : Memory) (out : List ℕ) (r : Request) → after.wait ≡ Answer r → after.edition ≡ request_edition r l.edition →
+request_sent : (l after : Laptop) (m : Memory) (out : List ℕ) (r : Request) → after.wait ≡ Some r → after.edition ≡ request_edition r l.edition →
     Sends l out m (sends (request_message r) after)
 unfolding step_of buffer_of
 request_sent l after m out r waits at = go (eqb (write_refusal (request_message r) (length out)) 0) refl

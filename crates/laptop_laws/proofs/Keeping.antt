@@ -23,8 +23,7 @@ use Rattle.laptop.specs.declared.Candidate.TheVariants.{Absent, Open, Done}
 use Rattle.laptop.specs.declared.Laptop.{Laptop}
 use Rattle.laptop.specs.declared.Told.{Told}
 use Rattle.laptop.specs.declared.Told.TheVariants.{Timer, ProtocolError}
-use Rattle.laptop.specs.declared.Wait.{Wait}
-use Rattle.laptop.specs.declared.Wait.TheVariants.{Nothing, Answer}
+use Rattle.std.specs.Prelude.{Option, Some, None}
 use Rattle.laptop_laws.proofs.Bits.{none_set, none_entered}
 use Rattle.laptop_laws.proofs.Places.{AnyOf, enter_free, exit_free}
 
@@ -65,8 +64,8 @@ module _ (l : Laptop) (m : Memory) (w : WellFormed l m) where
         mode_fits = tt;
       }
 
-  awaiting_formed : (r : Request) → WaitFits (Answer r) l.candidate l.pages l.stored m.svids →
-      (is_asking (awaiting r l) ≡ true → any_entered m.entered ≡ false) → ModeFits (Answer r) l m → WellFormed (awaiting r l) m
+  awaiting_formed : (r : Request) → WaitFits (Some r) l.candidate l.pages l.stored m.svids →
+      (is_asking (awaiting r l) ≡ true → any_entered m.entered ≡ false) → ModeFits (Some r) l m → WellFormed (awaiting r l) m
   awaiting_formed r f n k =
       record {
         lent = w.lent;
@@ -154,7 +153,7 @@ module _ (l : Laptop) (m : Memory) (w : WellFormed l m) where
       go true ec = absurd (omega (arith, eqb-true r.command 1 ec))
       go false ec = rw (e, ec)
 
-  mode_formed : (r : Request) → l.candidate ≡ Absent → 4 ≤ r.command → ModeFits (Answer r) l m → WellFormed (awaiting r l) m
+  mode_formed : (r : Request) → l.candidate ≡ Absent → 4 ≤ r.command → ModeFits (Some r) l m → WellFormed (awaiting r l) m
   mode_formed r e h k = awaiting_formed l m w r (inr (inr (inr (h, e)))) (quiet r e h) k
 
   absent_zero : (c : Candidate) → ◌≡◌ {A = ℕ} (cond (is_absent c) 0 13) 0 → c ≡ Absent
@@ -207,15 +206,15 @@ module _ (l : Laptop) (m : Memory) (w : WellFormed l m) where
   over_keeps r told =
       either m (eqb r.command 1) _ _ (λ e. dropped_formed l m w) (either m (ltb r.command 4) _ _ (λ e. ended_formed l m w) (ended_formed l m w))
 
-  pub timer_keeps : (first last : ℕ) (x : Wait) → Forms m (decide_timer first last l x)
+  pub timer_keeps : (first last : ℕ) (x : Option Request) → Forms m (decide_timer first last l x)
   unfolding decide_timer
-  timer_keeps first last Nothing = w
-  timer_keeps first last (Answer r) = either m (leb first r.command && leb r.command last) _ _ (λ e. over_keeps r (Timer r)) w
+  timer_keeps first last None = w
+  timer_keeps first last (Some r) = either m (leb first r.command && leb r.command last) _ _ (λ e. over_keeps r (Timer r)) w
 
-  pub error_keeps : (x : Wait) → Forms m (decide_error l x)
+  pub error_keeps : (x : Option Request) → Forms m (decide_error l x)
   unfolding decide_error
-  error_keeps Nothing = w
-  error_keeps (Answer r) = over_keeps r (ProtocolError r)
+  error_keeps None = w
+  error_keeps (Some r) = over_keeps r (ProtocolError r)
 
 -- a fresh laptop, with what it is lent
 zeros_at : (n i : ℕ) → ◌≡◌ {A = ℕ} (get_or (replicate n 0) i 0) 0

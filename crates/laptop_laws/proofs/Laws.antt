@@ -8,7 +8,7 @@ use Rattle.laptop_laws.specs.Effects.{Call, message, next, start_over, drop, ent
 use Rattle.laptop.specs.State.{Memory, fresh_laptop}
 use Rattle.laptop_laws.specs.WellFormed.{Lent, WellFormed}
 use Rattle.laptop.specs.declared.Laptop.{Laptop}
-use Rattle.laptop.specs.declared.Step.{Step}
+use Rattle.laptop.specs.Step.{Step}
 use Rattle.laptop_laws.proofs.Answering.{message_keeps}
 use Rattle.laptop_laws.proofs.Keeping.{step_formed, next_keeps, start_keeps, drop_keeps, enter_keeps, exit_keeps, timer_keeps, error_keeps, fresh_formed}
 

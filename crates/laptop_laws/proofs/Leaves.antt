@@ -22,7 +22,7 @@ use Rattle.laptop_laws.specs.Effects.{Call, message, next, start_over, drop, ent
 use Rattle.hearing.specs.Hearing.{Result, fits, with_opening, with_gathering, with_storing, with_marking, step_if_whole, list_if_whole, run_if_whole, published_if_whole, publishing, hear_answer, hear, heard}
 use Rattle.laptop.specs.State.{Memory, memory, dropped, counted, published}
 use Rattle.laptop.specs.declared.Laptop.{Laptop}
-use Rattle.laptop.specs.declared.Step.{Step}
+use Rattle.laptop.specs.Step.{Step}
 
 -- the output buffer
 left_alone : (at : Edition) (m : Message) (out : List ℕ) → eqb (write_refusal m (length out)) 0 ≡ false → written at m out ≡ out

@@ -26,9 +26,8 @@ use Rattle.laptop.specs.declared.Candidate.{Candidate}
 use Rattle.laptop.specs.declared.Candidate.TheVariants.{Absent, Open, Done}
 use Rattle.laptop.specs.declared.Laptop.{Laptop}
 use Rattle.laptop.specs.declared.Size.{Size}
-use Rattle.laptop.specs.declared.Step.{Step}
-use Rattle.laptop.specs.declared.Wait.{Wait}
-use Rattle.laptop.specs.declared.Wait.TheVariants.{Nothing, Answer}
+use Rattle.laptop.specs.Step.{Step}
+use Rattle.std.specs.Prelude.{Option, Some, None}
 use Rattle.laptop_laws.specs.Given.{Line, ◌when◌, First, ShortRun, reading_lines, FitsAwaited, NotAwaited, IsPage, BringsBadPage, VoidingNak, ModesPastTheLast, NoEnd, heard_lines}
 use Rattle.laptop_laws.proofs.First.{Tells, tells, tells_and, tells_eqb, tells_leb, tells_ltb, Numbered, first_behind}
 use Rattle.laptop_laws.proofs.Leaves.{whole_refusal}
@@ -57,14 +56,14 @@ module _ (bytes : List ℕ) where
   four_kinds = omega arith
 
 -- what is awaited
-pub tells_fits : (w : Wait) (h : Head) → Tells (fits w h) (FitsAwaited w h)
-tells_fits Nothing h = λ x. x
-tells_fits (Answer r) h =
+pub tells_fits : (w : Option Request) (h : Head) → Tells (fits w h) (FitsAwaited w h)
+tells_fits None h = λ x. x
+tells_fits (Some r) h =
     go (eqb r.svid h.svid) (eqb r.command h.command) (eqb r.position h.position) (tells_eqb r.svid h.svid)
     (tells_eqb r.command h.command) (tells_eqb r.position h.position)
   where
     go : (a b c : Bool) → Tells a (r.svid ≡ h.svid) → Tells b (r.command ≡ h.command) → Tells c (r.position ≡ h.position) →
-        Tells (a && (b && c)) (FitsAwaited (Answer r) h)
+        Tells (a && (b && c)) (FitsAwaited (Some r) h)
     go true true true ha hb hc = (ha, hb, hc)
     go true true false ha hb hc = λ x. hc x.2
     go true false c ha hb hc = λ x. hb x.1

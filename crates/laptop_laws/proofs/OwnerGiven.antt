@@ -20,8 +20,7 @@ use Rattle.laptop.specs.declared.Candidate.TheVariants.{Absent, Open, Done}
 use Rattle.laptop.specs.declared.Laptop.{Laptop}
 use Rattle.laptop.specs.declared.Told.{Told}
 use Rattle.laptop.specs.declared.Told.TheVariants.{Timer, ProtocolError}
-use Rattle.laptop.specs.declared.Wait.{Wait}
-use Rattle.laptop.specs.declared.Wait.TheVariants.{Nothing, Answer}
+use Rattle.std.specs.Prelude.{Option, Some, None}
 use Rattle.laptop_laws.specs.Given.{Line, ◌when◌, First, ShortRun, Awaits, owner_lines, sending_lines, next_request, AnyEntered, RightTimer}
 use Rattle.laptop_laws.proofs.Bits.{tells_any}
 use Rattle.laptop_laws.proofs.First.{Tells, tells_and, tells_not, tells_leb, tells_ltb, first_test, Numbered, first_behind}
@@ -40,9 +39,9 @@ tells_short run held_run = go (ltb run 432) (ltb held_run 432) (tells_ltb run 43
         none (inl x) = ha x
         none (inr x) = hb x
 
-tells_awaits : (w : Wait) → Tells (is_awaiting w) (w ≡ Nothing → ⊥)
-tells_awaits Nothing = λ h. h refl
-tells_awaits (Answer r) = λ e. false≢true (sym (ap is_awaiting e))
+tells_awaits : (w : Option Request) → Tells (is_awaiting w) (w ≡ None → ⊥)
+tells_awaits None = λ h. h refl
+tells_awaits (Some r) = λ e. false≢true (sym (ap is_awaiting e))
 
 module _ (l : Laptop) (m : Memory) where
   pub owner_first : First (owner_lines l m) (owner_refusal l (length m.run) (length m.held_run))
@@ -144,20 +143,20 @@ module _ (l : Laptop) (out : List ℕ) where
   unfolding step_of
   nine_number = refl
 
-  pub timer_given : (first last : ℕ) (w : Wait) →
+  pub timer_given : (first last : ℕ) (w : Option Request) →
       First (9 when (RightTimer first last w → ⊥) ∷ []) (step_of l (decide_timer first last l w) (length out)).refusal
   unfolding decide_timer
-  timer_given first last Nothing = inl (λ x. x, nine_number)
-  timer_given first last (Answer r) =
+  timer_given first last None = inl (λ x. x, nine_number)
+  timer_given first last (Some r) =
       go (leb first r.command && leb r.command last)
       (tells_and (leb first r.command) (leb r.command last) _ _ (tells_leb first r.command) (tells_leb r.command last))
     where
-      go : (t : Bool) → Tells t (RightTimer first last (Answer r)) →
-          First (9 when (RightTimer first last (Answer r) → ⊥) ∷ []) (step_of l (cond t (over l r (Timer r)) (refuses 9 l)) (length out)).refusal
+      go : (t : Bool) → Tells t (RightTimer first last (Some r)) →
+          First (9 when (RightTimer first last (Some r) → ⊥) ∷ []) (step_of l (cond t (over l r (Timer r)) (refuses 9 l)) (length out)).refusal
       go true h = inr (λ n. n h, over_number r (Timer r))
       go false h = inl (h, nine_number)
 
-  pub error_given : (w : Wait) → First (9 when (w ≡ Nothing) ∷ []) (step_of l (decide_error l w) (length out)).refusal
+  pub error_given : (w : Option Request) → First (9 when (w ≡ None) ∷ []) (step_of l (decide_error l w) (length out)).refusal
   unfolding decide_error
-  error_given Nothing = inl (refl, nine_number)
-  error_given (Answer r) = inr (λ e. false≢true (sym (ap is_awaiting e)), over_number r (ProtocolError r))
+  error_given None = inl (refl, nine_number)
+  error_given (Some r) = inr (λ e. false≢true (sym (ap is_awaiting e)), over_number r (ProtocolError r))

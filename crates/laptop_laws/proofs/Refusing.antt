@@ -25,11 +25,10 @@ use Rattle.timers.specs.Timers.{over, decide_timer, decide_error}
 use Rattle.laptop.specs.declared.Candidate.{Candidate}
 use Rattle.laptop.specs.declared.Candidate.TheVariants.{Absent, Open, Done}
 use Rattle.laptop.specs.declared.Laptop.{Laptop}
-use Rattle.laptop.specs.declared.Step.{Step}
+use Rattle.laptop.specs.Step.{Step}
 use Rattle.laptop.specs.declared.Told.{Told}
 use Rattle.laptop.specs.declared.Told.TheVariants.{Timer, ProtocolError}
-use Rattle.laptop.specs.declared.Wait.{Wait}
-use Rattle.laptop.specs.declared.Wait.TheVariants.{Nothing, Answer}
+use Rattle.std.specs.Prelude.{Option, Some, None}
 use Rattle.laptop_laws.specs.Effects.{Call, message, next, start_over, drop, enter, exit, timer, protocol_error, effect_of}
 use Rattle.laptop_laws.specs.Given.{lines}
 use Rattle.laptop_laws.specs.Refusing.{brings_page, left_by, RefusedAs}
@@ -63,15 +62,15 @@ module _ (l : Laptop) where
   unfolding over
   over_alone r told = either (eqb r.command 1) _ _ tt (either (ltb r.command 4) _ _ tt tt)
 
-  timer_alone : (first last : ℕ) (w : Wait) → Alone (decide_timer first last l w)
+  timer_alone : (first last : ℕ) (w : Option Request) → Alone (decide_timer first last l w)
   unfolding decide_timer
-  timer_alone first last Nothing = refl
-  timer_alone first last (Answer r) = either (leb first r.command && leb r.command last) _ _ (over_alone r (Timer r)) refl
+  timer_alone first last None = refl
+  timer_alone first last (Some r) = either (leb first r.command && leb r.command last) _ _ (over_alone r (Timer r)) refl
 
-  error_alone : (w : Wait) → Alone (decide_error l w)
+  error_alone : (w : Option Request) → Alone (decide_error l w)
   unfolding decide_error
-  error_alone Nothing = refl
-  error_alone (Answer r) = over_alone r (ProtocolError r)
+  error_alone None = refl
+  error_alone (Some r) = over_alone r (ProtocolError r)
 
   step_alone : (d : Decision) → Alone d → (room : ℕ) → ((step_of l d room).refusal ≡ 0 → ⊥) → step_of l d room ≡ refused_by (step_of l d room).refusal l
   unfolding step_of

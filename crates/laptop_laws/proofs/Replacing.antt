@@ -30,13 +30,12 @@ use Rattle.laptop.specs.State.{Memory, memory, with_pages, counted}
 use Rattle.timers.specs.Timers.{over, decide_timer, decide_error}
 use Rattle.laptop.specs.declared.Candidate.{Candidate}
 use Rattle.laptop.specs.declared.Candidate.TheVariants.{Absent, Open, Done}
-use Rattle.laptop.specs.declared.Held.{Held}
+use Rattle.std.specs.Prelude.{Option, Some, None}
+use Rattle.laptop.specs.declared.Size.{Size}
 use Rattle.laptop.specs.declared.Laptop.{Laptop}
-use Rattle.laptop.specs.declared.Step.{Step}
+use Rattle.laptop.specs.Step.{Step}
 use Rattle.laptop.specs.declared.Told.{Told}
 use Rattle.laptop.specs.declared.Told.TheVariants.{Timer, ProtocolError}
-use Rattle.laptop.specs.declared.Wait.{Wait}
-use Rattle.laptop.specs.declared.Wait.TheVariants.{Nothing, Answer}
 use Rattle.laptop_laws.specs.Given.{ShortRun, FitsAwaited}
 use Rattle.laptop_laws.proofs.Completing.{kind_not, other_not, svids_whole, modes_whole}
 use Rattle.laptop_laws.proofs.First.{Tells, tells_true, tells_false, tells_as}
@@ -77,15 +76,15 @@ over_keeps : (l : Laptop) (r : Request) (told : Told) → Keeps l (over l r told
 unfolding over
 over_keeps l r told = either l (eqb r.command 1) _ _ refl (either l (ltb r.command 4) _ _ refl refl)
 
-timer_keeps : (first last : ℕ) (l : Laptop) (w : Wait) → Keeps l (decide_timer first last l w)
+timer_keeps : (first last : ℕ) (l : Laptop) (w : Option Request) → Keeps l (decide_timer first last l w)
 unfolding decide_timer
-timer_keeps first last l Nothing = refl
-timer_keeps first last l (Answer r) = either l (leb first r.command && leb r.command last) _ _ (over_keeps l r (Timer r)) refl
+timer_keeps first last l None = refl
+timer_keeps first last l (Some r) = either l (leb first r.command && leb r.command last) _ _ (over_keeps l r (Timer r)) refl
 
-error_keeps : (l : Laptop) (w : Wait) → Keeps l (decide_error l w)
+error_keeps : (l : Laptop) (w : Option Request) → Keeps l (decide_error l w)
 unfolding decide_error
-error_keeps l Nothing = refl
-error_keeps l (Answer r) = over_keeps l r (ProtocolError r)
+error_keeps l None = refl
+error_keeps l (Some r) = over_keeps l r (ProtocolError r)
 
 -- so does what is decided of a message, before anything is published
 abbrev StepKeeps : Laptop → Step → Type 0
@@ -133,9 +132,9 @@ unfolding hear_modes store_modes
 modes_keep l kind words modes run =
     store_either l (eqb kind 3) _ _ refl (store_either l (eqb kind 1) _ _ (store_either l (ltb l.stored 72) _ _ refl refl) refl)
 
-same_held : (l : Laptop) (m : Memory) (h : Held) → h ≡ l.held →
+same_held : (l : Laptop) (m : Memory) (h : Option Size) → h ≡ l.held →
     ◌≡◌ {A = Holding} (record { held = h; svids = m.held_svids; modes = m.held_modes; identity = m.held_identity; run = m.held_run }) (holding l m)
-same_held l m h e = ap (λ (x : Held). record { held = x; svids = m.held_svids; modes = m.held_modes; identity = m.held_identity; run = m.held_run }) e
+same_held l m h e = ap (λ (x : Option Size). record { held = x; svids = m.held_svids; modes = m.held_modes; identity = m.held_identity; run = m.held_run }) e
 
 -- what is held after a message: replaced exactly when something holds
 module _ (l : Laptop) (m : Memory) (when : Type 0) where

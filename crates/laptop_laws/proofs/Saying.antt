@@ -28,11 +28,10 @@ use Rattle.timers.specs.Timers.{over, decide_timer, decide_error}
 use Rattle.laptop.specs.declared.Candidate.{Candidate}
 use Rattle.laptop.specs.declared.Candidate.TheVariants.{Absent, Open, Done}
 use Rattle.laptop.specs.declared.Laptop.{Laptop}
-use Rattle.laptop.specs.declared.Step.{Step}
+use Rattle.laptop.specs.Step.{Step}
 use Rattle.laptop.specs.declared.Told.{Told}
 use Rattle.laptop.specs.declared.Told.TheVariants.{Timer, ProtocolError}
-use Rattle.laptop.specs.declared.Wait.{Wait}
-use Rattle.laptop.specs.declared.Wait.TheVariants.{Nothing, Answer}
+use Rattle.std.specs.Prelude.{Option, Some, None}
 use Rattle.laptop_laws.specs.Editions.{Said, nothing, identity_out, acknowledged, edition_by, identity_goes_out, acknowledgement, taken_by, request_edition}
 use Rattle.laptop_laws.specs.Effects.{Call, message, next, start_over, drop, enter, exit, timer, protocol_error, effect_of}
 use Rattle.laptop_laws.specs.WellFormed.{awaits_identity}
@@ -65,7 +64,7 @@ calm_says l s c = record { edition_is = c.0; stays = λ n out. c.1 n; ends = λ 
 
 -- an answer ends the wait and sends nothing: the edition after it
 abbrev Ends : Edition → Step → Type 0
-Ends e s = (s.length ≡ 0) × (s.laptop.edition ≡ e) × (s.laptop.wait ≡ Nothing)
+Ends e s = (s.length ≡ 0) × (s.laptop.edition ≡ e) × (s.laptop.wait ≡ None)
 
 ends_says : (l : Laptop) (s : Step) (taken : Said) → Ends (edition_by taken l.edition) s → Says l s taken
 ends_says l s taken e = record { edition_is = e.1; stays = λ n out. ap awaits_identity e.2; ends = λ a. ap awaits_identity e.2 }
@@ -215,7 +214,7 @@ abbrev pub Decides : Laptop → Decision → Type 0
 Decides l (refuses number after) = Calm l after
 Decides l (accepts told after) = Calm l after
 Decides l (sends x after) =
-    (r : Request) × (x ≡ request_message r) × (after.wait ≡ Answer r) × (after.edition ≡ request_edition r l.edition)
+    (r : Request) × (x ≡ request_message r) × (after.wait ≡ Some r) × (after.edition ≡ request_edition r l.edition)
 
 either : (l : Laptop) (t : Bool) (a b : Decision) → Decides l a → Decides l b → Decides l (cond t a b)
 either l true a b da db = da
@@ -259,15 +258,15 @@ unfolding over
 over_decides l r told =
     either l (eqb r.command 1) _ _ (refl, λ n. refl) (either l (ltb r.command 4) _ _ (refl, λ n. refl) (refl, λ n. refl))
 
-pub timer_decides : (first last : ℕ) (l : Laptop) (w : Wait) → Decides l (decide_timer first last l w)
+pub timer_decides : (first last : ℕ) (l : Laptop) (w : Option Request) → Decides l (decide_timer first last l w)
 unfolding decide_timer
-timer_decides first last l Nothing = (refl, λ n. n)
-timer_decides first last l (Answer r) = either l (leb first r.command && leb r.command last) _ _ (over_decides l r (Timer r)) (refl, λ n. n)
+timer_decides first last l None = (refl, λ n. n)
+timer_decides first last l (Some r) = either l (leb first r.command && leb r.command last) _ _ (over_decides l r (Timer r)) (refl, λ n. n)
 
-pub error_decides : (l : Laptop) (w : Wait) → Decides l (decide_error l w)
+pub error_decides : (l : Laptop) (w : Option Request) → Decides l (decide_error l w)
 unfolding decide_error
-error_decides l Nothing = (refl, λ n. n)
-error_decides l (Answer r) = over_decides l r (ProtocolError r)
+error_decides l None = (refl, λ n. n)
+error_decides l (Some r) = over_decides l r (ProtocolError r)
 
 -- a request that is sent, by whether it is Identity
 sent_says : (l after : Laptop) (t : Bool) → awaits_identity after.wait ≡ t → after.edition ≡ cond t ours l.edition →
@@ -284,7 +283,7 @@ step_says l (sends x after) room h =
   where
     go : (t : Bool) →
         SaysWith l (cond t (sent_by (message_length (request_message h.0)) after) (refused_by (write_refusal (request_message h.0) room) l)) nothing
-    go true = sent_says l after (awaits_identity after.wait) refl (h.3 ∙ sym (ap (λ (w : Wait). cond (awaits_identity w) ours l.edition) h.2))
+    go true = sent_says l after (awaits_identity after.wait) refl (h.3 ∙ sym (ap (λ (w : Option Request). cond (awaits_identity w) ours l.edition) h.2))
     go false = says_silent l _ nothing refl (calm_says l _ (refl, λ n. n))
 
 -- any call

@@ -1,5 +1,5 @@
 -- The edition of what the laptop sends: what each call says of it, and the edition after any history (02, R-5).
-use Rattle.std.specs.Prelude.{◌≡◌, Bool, cond, ◌&&◌, List, [], ◌∷◌, ℕ, ◌^◌, ◌<◌, ltb, eqb, length, take}
+use Rattle.std.specs.Prelude.{◌≡◌, Bool, cond, ◌&&◌, List, [], ◌∷◌, ℕ, ◌^◌, ◌<◌, ltb, eqb, length, take, Option, Some}
 use Rattle.messages.specs.Editions.{ours, lower}
 use Rattle.messages.specs.Layout.{ack, message_bytes}
 use Rattle.messages.specs.Reading.{Outcome, accepted, refused, read_outcome}
@@ -12,9 +12,7 @@ use Rattle.laptop.specs.Calls.{short_runs}
 use Rattle.laptop.specs.State.{Memory}
 use Rattle.owner.specs.Owner.{request_message}
 use Rattle.laptop.specs.declared.Laptop.{Laptop}
-use Rattle.laptop.specs.declared.Step.{Step}
-use Rattle.laptop.specs.declared.Wait.{Wait}
-use Rattle.laptop.specs.declared.Wait.TheVariants.{Answer}
+use Rattle.laptop.specs.Step.{Step}
 use Rattle.laptop_laws.specs.Effects.{Call, message, next, start_over, drop, enter, exit, timer, protocol_error, Effect, effect_of, Kept, kept_after}
 use Rattle.laptop_laws.specs.WellFormed.{awaits_identity}
 
@@ -35,7 +33,7 @@ abbrev pub identity_goes_out : Step → Bool
 identity_goes_out s = ltb 0 s.length && awaits_identity s.laptop.wait
 
 -- the Identity ACK that is awaited
-abbrev pub is_awaited_ack : Wait → Head → Bool
+abbrev pub is_awaited_ack : Option Request → Head → Bool
 is_awaited_ack w h = fits w h && (eqb h.command identity_command && eqb h.kind ack)
 
 abbrev pub acknowledgement : Laptop → Outcome → Said
@@ -66,7 +64,7 @@ request_edition r before = cond (eqb r.command identity_command) ours before
 
 -- what a call hands over is a request at an edition, and is read so again; its answer is awaited, and the laptop stands at that edition
 pub record SentAt (e : Edition) (r : Request) (effect : Effect) : Type 0 where
-  pub awaited : effect.step.laptop.wait ≡ Answer r
+  pub awaited : effect.step.laptop.wait ≡ Some r
   pub edition_is : effect.step.laptop.edition ≡ e
   pub bytes_are : take effect.step.length effect.buffer ≡ message_bytes e (request_message r)
   pub read_again : r.svid < 2 ^ 16 → read_outcome (take effect.step.length effect.buffer) ≡ accepted e (request_message r)

@@ -7,7 +7,7 @@ use Rattle.owner.specs.Owner.{decide_next, decide_start_over, decide_drop, decid
 use Rattle.laptop.specs.State.{Memory}
 use Rattle.timers.specs.Timers.{decide_timer, decide_error}
 use Rattle.laptop.specs.declared.Laptop.{Laptop}
-use Rattle.laptop.specs.declared.Step.{Step}
+use Rattle.laptop.specs.Step.{Step}
 
 -- a message's bytes; the owner's calls, with SVID and position for enter and exit; the timer of commands from first to last; the protocol error
 pub data Call : Type 0 where

@@ -1,5 +1,5 @@
 -- When each refusal number is given (01, "Refusal numbers"): for each call its lines, in 01's words and in 01's order.
-use Rattle.std.specs.Prelude.{◌⊎◌, ◌≡◌, true, false, List, [], ◌∷◌, ◌++◌, ℕ, ◌+◌, ◌-◌, ◌/◌, ◌%◌, ◌^◌, ◌<◌, ◌≤◌, length, get_or}
+use Rattle.std.specs.Prelude.{◌⊎◌, ◌≡◌, true, false, List, [], ◌∷◌, ◌++◌, ℕ, ◌+◌, ◌-◌, ◌/◌, ◌%◌, ◌^◌, ◌<◌, ◌≤◌, length, get_or, Option, Some, None}
 use Rattle.messages.specs.Layout.{req, ack, nak, Message}
 use Rattle.messages.specs.Reading.{wrong_length, unstructured, wrong_major, wrong_shape, header_in, message_in}
 use Rattle.messages.specs.Requests.{svids_command, modes_command, enter_command, exit_command, attention_command}
@@ -18,8 +18,6 @@ use Rattle.owner.specs.Owner.{discover, request_message}
 use Rattle.laptop.specs.declared.Candidate.{Candidate}
 use Rattle.laptop.specs.declared.Candidate.TheVariants.{Absent, Open, Done}
 use Rattle.laptop.specs.declared.Laptop.{Laptop}
-use Rattle.laptop.specs.declared.Wait.{Wait}
-use Rattle.laptop.specs.declared.Wait.TheVariants.{Nothing, Answer}
 use Rattle.laptop_laws.specs.Effects.{Call, message, next, start_over, drop, enter, exit, timer, protocol_error}
 
 -- a line: a number, and when it holds
@@ -42,7 +40,7 @@ ShortRun m = (length m.run < run_words) ⊎ (length m.held_run < run_words)
 
 -- 7: an answer is awaited
 abbrev pub Awaits : Laptop → Type 0
-Awaits l = l.wait ≡ Nothing → ⊥
+Awaits l = l.wait ≡ None → ⊥
 
 abbrev pub owner_lines : Laptop → Memory → List Line
 owner_lines l m = 11 when ShortRun m ∷ 7 when Awaits l ∷ []
@@ -95,9 +93,9 @@ exit_lines l m svid position =
     13 when ((place : ℕ) × HeldAt l m svid place × EnteredAs m place position → ⊥) ∷ []
 
 -- 9: the right timer is that of the awaited command
-abbrev pub RightTimer : ℕ → ℕ → Wait → Type 0
-RightTimer first last Nothing = ⊥
-RightTimer first last (Answer r) = (first ≤ r.command) × (r.command ≤ last)
+abbrev pub RightTimer : ℕ → ℕ → Option Request → Type 0
+RightTimer first last None = ⊥
+RightTimer first last (Some r) = (first ≤ r.command) × (r.command ≤ last)
 
 -- 1, 2, 3, 5: as reading; 02 has withdrawn 4
 abbrev pub reading_lines : List ℕ → List Line
@@ -108,9 +106,9 @@ reading_lines bytes =
     5 when (wrong_shape (header_in bytes) (length bytes / 4) ≡ true) ∷ []
 
 -- an answer fits the awaited SVID, command and position
-abbrev pub FitsAwaited : Wait → Head → Type 0
-FitsAwaited Nothing h = ⊥
-FitsAwaited (Answer r) h = (r.svid ≡ h.svid) × (r.command ≡ h.command) × (r.position ≡ h.position)
+abbrev pub FitsAwaited : Option Request → Head → Type 0
+FitsAwaited None h = ⊥
+FitsAwaited (Some r) h = (r.svid ≡ h.svid) × (r.command ≡ h.command) × (r.position ≡ h.position)
 
 -- 6: a REQ other than Attention, or an answer not awaited
 abbrev pub NotAwaited : Laptop → Head → Type 0
@@ -157,7 +155,7 @@ lines (enter svid position) l m out =
 lines (exit svid position) l m out =
     owner_lines l m ++ exit_lines l m svid position ++ sending_lines (record { svid = svid; command = exit_command; position = position }) out
 lines (timer first last) l m out = 9 when (RightTimer first last l.wait → ⊥) ∷ []
-lines protocol_error l m out = 9 when (l.wait ≡ Nothing) ∷ []
+lines protocol_error l m out = 9 when (l.wait ≡ None) ∷ []
 
 -- a call is refused by a number: its line is the first that holds; 0: none does
 abbrev pub Given : ℕ → Call → Laptop → Memory → List ℕ → Type 0

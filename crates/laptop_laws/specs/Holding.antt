@@ -1,5 +1,5 @@
 -- What is held, and when a catalogue is published.
-use Rattle.std.specs.Prelude.{◌⊎◌, ◌≡◌, List, ℕ, ◌+◌, ◌<◌, ◌≤◌, length, take}
+use Rattle.std.specs.Prelude.{◌⊎◌, ◌≡◌, List, ℕ, ◌+◌, ◌<◌, ◌≤◌, length, take, Option, Some}
 use Rattle.messages.specs.Layout.{ack, nak, Message}
 use Rattle.messages.specs.Reading.{message_in, read_refusal}
 use Rattle.messages.specs.Requests.{svids_command, modes_command}
@@ -12,15 +12,14 @@ use Rattle.gathering.specs.Gathering.{most_pages}
 use Rattle.hearing.specs.Answers.{copied}
 use Rattle.laptop.specs.State.{Memory, gathered_list}
 use Rattle.laptop.specs.declared.Candidate.TheVariants.{Absent, Open, Done}
-use Rattle.laptop.specs.declared.Held.{Held}
-use Rattle.laptop.specs.declared.Held.TheVariants.{Catalogue as HeldAsCatalogue}
+use Rattle.laptop.specs.declared.Size.{Size}
 use Rattle.laptop.specs.declared.Laptop.{Laptop}
 use Rattle.laptop_laws.specs.Effects.{Call, message, next, start_over, drop, enter, exit, timer, protocol_error}
 use Rattle.laptop_laws.specs.Given.{ShortRun, FitsAwaited, IsPage}
 
 -- the held catalogue with its run, to the word
 pub record Holding : Type 0 where
-  pub held : Held
+  pub held : Option Size
   pub svids : List ℕ
   pub modes : List ℕ
   pub identity : List ℕ
@@ -33,7 +32,7 @@ holding l m = record { held = l.held; svids = m.held_svids; modes = m.held_modes
 abbrev pub candidate_held : Laptop → Memory → List ℕ → Holding
 candidate_held l m run =
     record {
-      held = HeldAsCatalogue l.gathered;
+      held = Some l.gathered;
       svids = m.svids;
       modes = m.modes;
       identity = m.identity;

@@ -7,7 +7,7 @@ use Rattle.hearing.specs.Hearing.{is_idle}
 use Rattle.laptop.specs.Calls.{refused_by}
 use Rattle.laptop.specs.State.{is_open, dropped, counted}
 use Rattle.laptop.specs.declared.Laptop.{Laptop}
-use Rattle.laptop.specs.declared.Step.{Step}
+use Rattle.laptop.specs.Step.{Step}
 use Rattle.laptop_laws.specs.Effects.{Call, message, next, start_over, drop, enter, exit, timer, protocol_error}
 
 -- a page comes: a message that is an SVIDs ACK

@@ -1,5 +1,5 @@
 -- A well-formed laptop (01, "The laptop end").
-use Rattle.std.specs.Prelude.{◌⊎◌, ◌≡◌, Bool, true, false, not, ◌||◌, List, ℕ, ◌<◌, ◌≤◌, eqb, length, get_or, take}
+use Rattle.std.specs.Prelude.{◌⊎◌, ◌≡◌, Bool, true, false, not, ◌||◌, List, ℕ, ◌<◌, ◌≤◌, eqb, length, get_or, take, Option, Some, None}
 use Rattle.messages.specs.Requests.{identity_command, svids_command, modes_command, enter_command, exit_command}
 use Rattle.messages.specs.declared.request.Request.{Request}
 use Rattle.messages.specs.Table.{pd_sid}
@@ -11,13 +11,8 @@ use Rattle.owner.specs.Owner.{any_entered, discover, is_absent}
 use Rattle.laptop.specs.State.{Memory, identity_request}
 use Rattle.laptop.specs.declared.Candidate.{Candidate}
 use Rattle.laptop.specs.declared.Candidate.TheVariants.{Absent, Open, Done}
-use Rattle.laptop.specs.declared.Held.{Held}
-use Rattle.laptop.specs.declared.Held.TheVariants.{Catalogue as HeldAsCatalogue}
-use Rattle.laptop.specs.declared.Held.TheVariants.{Nothing as HeldNothing}
 use Rattle.laptop.specs.declared.Laptop.{Laptop}
 use Rattle.laptop.specs.declared.Size.{Size}
-use Rattle.laptop.specs.declared.Wait.{Wait}
-use Rattle.laptop.specs.declared.Wait.TheVariants.{Nothing, Answer}
 use Rattle.laptop_laws.specs.Given.{Entered, HeldAt, OneOfItsModes, MayExit, EnteredAs}
 
 -- what is lent has its size; a run has 432 words or more
@@ -37,9 +32,9 @@ pub record Listed (size : Size) (n : ℕ) (svids modes : List ℕ) : Type 0 wher
   pub some_modes : (i : ℕ) → i < n → 1 ≤ get_or modes i 0
   pub few_modes : (i : ℕ) → i < n → get_or modes i 0 ≤ modes_each
 
-abbrev pub HeldFits : Held → List ℕ → List ℕ → Type 0
-HeldFits HeldNothing svids modes = Unit
-HeldFits (HeldAsCatalogue size) svids modes = Listed size size.count svids modes
+abbrev pub HeldFits : Option Size → List ℕ → List ℕ → Type 0
+HeldFits None svids modes = Unit
+HeldFits (Some size) svids modes = Listed size size.count svids modes
 
 -- the list is open only under 200 pages; when it is done, modes are missing
 abbrev pub CandidateFits : Candidate → Size → ℕ → ℕ → List ℕ → List ℕ → Type 0
@@ -48,18 +43,18 @@ CandidateFits Open size pages stored svids modes = Listed size 0 svids modes × 
 CandidateFits Done size pages stored svids modes = Listed size stored svids modes × (stored < size.count)
 
 -- what is awaited fits the candidate; the pages are counted from the sending of Identity on
-abbrev pub WaitFits : Wait → Candidate → ℕ → ℕ → List ℕ → Type 0
-WaitFits Nothing candidate pages stored svids = Unit
-WaitFits (Answer r) candidate pages stored svids =
+abbrev pub WaitFits : Option Request → Candidate → ℕ → ℕ → List ℕ → Type 0
+WaitFits None candidate pages stored svids = Unit
+WaitFits (Some r) candidate pages stored svids =
     ((r ≡ identity_request) × (candidate ≡ Absent) × (pages ≡ 0)) ⊎
     (((r ≡ discover pd_sid svids_command) × (candidate ≡ Open)) ⊎
     (((r ≡ discover (get_or svids stored 0) modes_command) × (candidate ≡ Done)) ⊎
     ((enter_command ≤ r.command) × (candidate ≡ Absent))))
 
 -- a candidate is gathered, or Identity is awaited
-abbrev pub awaits_identity : Wait → Bool
-awaits_identity Nothing = false
-awaits_identity (Answer r) = eqb r.command identity_command
+abbrev pub awaits_identity : Option Request → Bool
+awaits_identity None = false
+awaits_identity (Some r) = eqb r.command identity_command
 
 abbrev pub is_asking : Laptop → Bool
 is_asking l = not (is_absent l.candidate) || awaits_identity l.wait
@@ -74,9 +69,9 @@ abbrev pub ExitFits : Request → Laptop → Memory → Type 0
 ExitFits r l m =
     (r.command ≡ exit_command) × ((place : ℕ) × HeldAt l m r.svid place × MayExit m place r.position × EnteredAs m place r.position)
 
-abbrev pub ModeFits : Wait → Laptop → Memory → Type 0
-ModeFits Nothing l m = Unit
-ModeFits (Answer r) l m = enter_command ≤ r.command → EnterFits r l m ⊎ ExitFits r l m
+abbrev pub ModeFits : Option Request → Laptop → Memory → Type 0
+ModeFits None l m = Unit
+ModeFits (Some r) l m = enter_command ≤ r.command → EnterFits r l m ⊎ ExitFits r l m
 
 pub record WellFormed (l : Laptop) (m : Memory) : Type 0 where
   pub lent : Lent m

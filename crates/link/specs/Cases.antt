@@ -1,6 +1,6 @@
 -- Document 01's cases 1 to 12, run on the definitions of both ends, as one list; and Case L. Their headers are at 2.0: so are the requests to the dock and the
 -- answers to the laptop.
-use Rattle.std.specs.Prelude.{ℕ, zero, suc, ◌+◌, List, [], ◌∷◌, ◌++◌, take, replicate}
+use Rattle.std.specs.Prelude.{ℕ, zero, suc, ◌+◌, List, [], ◌∷◌, ◌++◌, take, replicate, Option, Some, None}
 use Rattle.messages.specs.Editions.{ours, edition_number}
 use Rattle.messages.specs.Layout.{ack, nak, message_bytes, bytes_of, objects_of}
 use Rattle.messages.specs.Reading.{Outcome, accepted, refused, read_outcome}
@@ -13,9 +13,7 @@ use Rattle.dock.specs.declared.Dock.{Dock}
 use Rattle.dock.specs.declared.Policy.TheVariants.{Give}
 use Rattle.owner.specs.Owner.{discover, request_message}
 use Rattle.laptop.specs.State.{Memory, memory, identity_request, fresh_laptop}
-use Rattle.laptop.specs.declared.Held.{Held}
-use Rattle.laptop.specs.declared.Held.TheVariants.{Catalogue as HeldAsCatalogue}
-use Rattle.laptop.specs.declared.Held.TheVariants.{Nothing as HeldNothing}
+use Rattle.laptop.specs.declared.Size.{Size}
 use Rattle.laptop.specs.declared.Laptop.{Laptop}
 use Rattle.laptop_laws.specs.Effects.{Call, message, next, Effect}
 use Rattle.laptop_laws.specs.Holding.{holding}
@@ -162,9 +160,9 @@ cases =
     case ((nak_after_page.refusal ∷ []) ∷ held_at (after gathers_old fresh) ∷ held_at nak_after_page ∷ []) ((8 ∷ []) ∷ old_bytes ∷ old_bytes ∷ []) ∷ []
 
 -- Case L: for each event the refusal, the header sent, the page count and the number of held SVIDs; then the catalogue's 22 bytes
-abbrev pub held_number : Held → List ℕ
-held_number HeldNothing = []
-held_number (HeldAsCatalogue size) = size.count ∷ []
+abbrev pub held_number : Option Size → List ℕ
+held_number None = []
+held_number (Some size) = size.count ∷ []
 
 unfoldable pub line : Effect → List (List ℕ)
 line d =

@@ -1,6 +1,5 @@
 -- What demand 3 says, in the words of document 01.
-use Rattle.std.specs.Prelude.{◌⊎◌, ◌≡◌, ℕ, ◌+◌, ◌/◌, ◌^◌, ◌<◌, ◌≤◌, true, false, List, [], ◌∷◌, length, take}
-use Rattle.std.proofs.Math.Option.{Option, none, some}
+use Rattle.std.specs.Prelude.{◌⊎◌, ◌≡◌, ℕ, ◌+◌, ◌/◌, ◌^◌, ◌<◌, ◌≤◌, true, false, List, [], ◌∷◌, length, take, Some, None, Option}
 use Rattle.laws.specs.Bounded.{Below}
 use Rattle.messages.specs.Editions.{ours}
 use Rattle.messages.specs.Layout.{Message, message_bytes}
@@ -18,7 +17,6 @@ use Rattle.laptop.specs.Catalogue.{Entry, Catalogue}
 use Rattle.hearing.specs.Hearing.{is_late_page}
 use Rattle.owner.specs.Owner.{is_absent, request_message}
 use Rattle.laptop.specs.State.{gathered_list, identity_request}
-use Rattle.laptop.specs.declared.Wait.TheVariants.{Nothing, Answer}
 use Rattle.laptop_laws.specs.Effects.{start_over, drop, message, Kept}
 use Rattle.laptop_laws.specs.Holding.{Holding, holding}
 use Rattle.laptop_laws.specs.WellFormed.{awaits_identity, WellFormed}
@@ -38,7 +36,7 @@ pub record Meets (modes_of : ℕ → List ℕ) (d : Dock) : Type 0 where
 -- a Discover Identity has just gone out from a well-formed laptop, and nothing else is on its way; the dock is at rest, at any page
 pub record Begins (s : System) : Type 0 where
   pub formed : WellFormed s.laptop s.memory
-  pub identity_awaited : s.laptop.wait ≡ Answer identity_request
+  pub identity_awaited : s.laptop.wait ≡ Some identity_request
   pub identity_out : s.way ≡ request (message_bytes ours (request_message identity_request))
   pub nothing_else : s.fate ≡ gone
   pub at_rest : s.dock.standing ≡ Ready
@@ -46,7 +44,7 @@ pub record Begins (s : System) : Type 0 where
 -- before that: a well-formed laptop that awaits nothing, nothing on its way, and the dock at rest
 pub record AtRest (s : System) : Type 0 where
   pub formed : WellFormed s.laptop s.memory
-  pub nothing_awaited : s.laptop.wait ≡ Nothing
+  pub nothing_awaited : s.laptop.wait ≡ None
   pub nothing_comes : s.fate ≡ gone
   pub dock_ready : s.dock.standing ≡ Ready
 
@@ -113,14 +111,14 @@ module _ (modes_of : ℕ → List ℕ) (d : Dock) where
 
 -- how the laptop answers what arrives
 abbrev pub refusal_of : System → Option (List ℕ) → ℕ
-refusal_of s none = 0
-refusal_of s (some bytes) = (laptop_does (message bytes) s.laptop s.memory []).step.refusal
+refusal_of s None = 0
+refusal_of s (Some bytes) = (laptop_does (message bytes) s.laptop s.memory []).step.refusal
 
 -- the ends of a gathering that is not finished: drop, start over, a late page with nothing awaited, or two hundred pages
 pub data Ending (s : System) : Event → Type 0 where
   by_drop : (out : List ℕ) → Ending s (calls drop out)
   by_start_over : (out : List ℕ) → Ending s (calls start_over out)
-  by_late_page : (bytes : List ℕ) (e : Edition) (m : Message) → on_way s.fate ≡ some bytes → read_outcome bytes ≡ accepted e m → is_late_page s.laptop m.head ≡ true →
+  by_late_page : (bytes : List ℕ) (e : Edition) (m : Message) → on_way s.fate ≡ Some bytes → read_outcome bytes ≡ accepted e m → is_late_page s.laptop m.head ≡ true →
       Ending s arrive
   by_fourteen : refusal_of s (on_way s.fate) ≡ 14 → Ending s arrive
 

@@ -1,5 +1,5 @@
 -- Runs that lead to the dock's whole catalogue: one in which nothing is lost, and one from wherever a run has led.
-use Rattle.std.specs.Prelude.{◌⊎◌, ◌≡◌, ℕ, zero, suc, ◌+◌, ◌-◌, ◌/◌, ◌<◌, ◌≤◌, true, false, List, [], ◌∷◌, ◌++◌, length, get_or}
+use Rattle.std.specs.Prelude.{◌⊎◌, ◌≡◌, ℕ, zero, suc, ◌+◌, ◌-◌, ◌/◌, ◌<◌, ◌≤◌, true, false, List, [], ◌∷◌, ◌++◌, length, get_or, Some, None}
 use Rattle.messages.specs.Layout.{Message}
 use Rattle.messages.specs.Requests.{svids_command, modes_command}
 use Rattle.messages.specs.Table.{pd_sid}
@@ -10,7 +10,6 @@ use Rattle.dock.specs.declared.Policy.TheVariants.{Give}
 use Rattle.owner.specs.Owner.{discover}
 use Rattle.laptop.specs.Catalogue.{modes_each}
 use Rattle.laptop.specs.State.{identity_request}
-use Rattle.laptop.specs.declared.Wait.TheVariants.{Nothing, Answer}
 use Rattle.laptop_laws.specs.Effects.{next, drop, protocol_error}
 use Rattle.link.specs.Demand.{whole, held_words, Holds}
 use Rattle.link.specs.Joined.{System, Event, calls, reach, answer, arrive, sent}
@@ -59,7 +58,7 @@ to_rest = calls protocol_error [] ∷ arrive ∷ calls drop [] ∷ []
 -- whatever has happened, a wait can be ended, and then the dock's whole catalogue gathered
 abbrev pub NoDeadEnd : (ℕ → List ℕ) → Dock → System → List ℕ → Type 0
 NoDeadEnd modes_of d s out =
-    ((step modes_of (calls protocol_error []) s).laptop.wait ≡ Nothing) ×
+    ((step modes_of (calls protocol_error []) s).laptop.wait ≡ None) ×
     Holds (whole modes_of d) (run modes_of (to_rest ++ times (in_all_of (length (listed d))) (exchange out)) s)
 
 -- NEXT ASKS FOR WHAT IS NEEDED, whatever has been lost: Identity where nothing has come or nothing is missing, SVIDs while an answer to SVIDs is missing, and
@@ -67,12 +66,12 @@ NoDeadEnd modes_of d s out =
 pub record AsksModes (modes_of : ℕ → List ℕ) (d : Dock) (got : List Message) (after : System) : Type 0 where
   pub place : ℕ
   pub is_listed : place < length (listed d)
-  pub asked : after.laptop.wait ≡ Answer (discover (get_or (listed d) place 0) modes_command)
+  pub asked : after.laptop.wait ≡ Some (discover (get_or (listed d) place 0) modes_command)
   pub not_come : has_come (modes_answer modes_of (get_or (listed d) place 0)) got ≡ false
 
 abbrev pub NextAsks : (ℕ → List ℕ) → Dock → System → List Message → List ℕ → Type 0
 NextAsks modes_of d s got out =
-    ((got ≡ []) ⊎ (needed modes_of d got ≡ 0) → (step modes_of (calls next out) s).laptop.wait ≡ Answer identity_request) ×
+    ((got ≡ []) ⊎ (needed modes_of d got ≡ 0) → (step modes_of (calls next out) s).laptop.wait ≡ Some identity_request) ×
     (has_come (identity_answer d) got ≡ true → is_listing (listed d) got ≡ true →
-    (step modes_of (calls next out) s).laptop.wait ≡ Answer (discover pd_sid svids_command)) ×
+    (step modes_of (calls next out) s).laptop.wait ≡ Some (discover pd_sid svids_command)) ×
     (is_listing (listed d) got ≡ false → 0 < needed modes_of d got → AsksModes modes_of d got (step modes_of (calls next out) s))

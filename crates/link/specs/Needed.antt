@@ -1,7 +1,6 @@
 -- The answers that a gathering needs, told from the dock's identity, list and modes, and those that have come in it. Of the laptop nothing is asked
 -- but what it awaits, whether a call sent something, and whether drop was accepted.
-use Rattle.std.specs.Prelude.{ℕ, zero, suc, ◌+◌, ◌/◌, Bool, false, cond, not, ◌&&◌, ◌||◌, List, [], ◌∷◌, ◌++◌, leb, ltb, eqb, length, take}
-use Rattle.std.proofs.Math.Option.{Option, none, some}
+use Rattle.std.specs.Prelude.{ℕ, zero, suc, ◌+◌, ◌/◌, Bool, false, cond, not, ◌&&◌, ◌||◌, List, [], ◌∷◌, ◌++◌, leb, ltb, eqb, length, take, Option, Some, None}
 use Rattle.messages.specs.Layout.{ack, nak, busy, Message}
 use Rattle.messages.specs.Reading.{Outcome, accepted, refused, read_outcome}
 use Rattle.messages.specs.Requests.{svids_command, modes_command}
@@ -16,7 +15,7 @@ use Rattle.hearing.specs.Hearing.{fits}
 use Rattle.owner.specs.Owner.{discover}
 use Rattle.laptop.specs.Calls.{is_awaiting}
 use Rattle.laptop.specs.State.{identity_request}
-use Rattle.laptop.specs.declared.Wait.{Wait}
+use Rattle.messages.specs.declared.request.Request.{Request}
 use Rattle.laptop_laws.specs.Effects.{Call, message, next, start_over, drop, enter, exit, timer, protocol_error, Effect}
 use Rattle.laptop_laws.specs.WellFormed.{awaits_identity}
 use Rattle.link.specs.Ends.{laptop_does}
@@ -97,27 +96,27 @@ unfoldable pub is_too_many : List ℕ → List Message → Bool
 is_too_many list got = leb most_pages (pages_in got) && is_listing list got
 
 -- an awaited answer to Identity, SVIDs or Modes that is not BUSY
-unfoldable pub is_answer : Wait → Message → Bool
+unfoldable pub is_answer : Option Request → Message → Bool
 is_answer w m = fits w m.head && (leb m.head.command modes_command && not (eqb m.head.kind busy))
 
 -- a page with nothing awaited, while the list is open
-unfoldable pub is_late : Wait → List ℕ → Message → List Message → Bool
+unfoldable pub is_late : Option Request → List ℕ → Message → List Message → Bool
 is_late w list m got = not (is_awaiting w) && (is_page_answer m && is_listing list got)
 
 -- what has come in this gathering, the newest first, once a message has arrived at a laptop that awaits w
 unfoldable pub with_answer : List ℕ → Message → List Message → List Message
 with_answer list m got = cond (is_too_many list (m ∷ got)) [] (m ∷ got)
 
-unfoldable pub with_taken : Wait → List ℕ → Message → List Message → List Message
+unfoldable pub with_taken : Option Request → List ℕ → Message → List Message → List Message
 with_taken w list m got = cond (is_answer w m) (with_answer list m got) (cond (is_late w list m got) [] got)
 
-unfoldable pub with_message : Wait → List ℕ → Outcome → List Message → List Message
+unfoldable pub with_message : Option Request → List ℕ → Outcome → List Message → List Message
 with_message w list (refused number) got = got
 with_message w list (accepted e m) got = with_taken w list m got
 
-abbrev pub with_arrival : Wait → List ℕ → Option (List ℕ) → List Message → List Message
-with_arrival w list none got = got
-with_arrival w list (some bytes) got = with_message w list (read_outcome bytes) got
+abbrev pub with_arrival : Option Request → List ℕ → Option (List ℕ) → List Message → List Message
+with_arrival w list None got = got
+with_arrival w list (Some bytes) got = with_message w list (read_outcome bytes) got
 
 -- Identity goes out with a call: a message is sent, and Identity is awaited
 abbrev pub identity_out : Effect → Bool
@@ -136,20 +135,20 @@ begins_anew protocol_error d = identity_out d
 
 -- the bytes with which an event comes to the laptop
 abbrev pub on_way : Fate → Option (List ℕ)
-on_way gone = none
-on_way (coming bytes) = some bytes
-on_way (confirmed bytes) = some bytes
-on_way (came b) = none
+on_way gone = None
+on_way (coming bytes) = Some bytes
+on_way (confirmed bytes) = Some bytes
+on_way (came b) = None
 
 abbrev pub arriving : Event → Fate → Option (List ℕ)
-arriving (calls c out) fate = none
-arriving lose_request fate = none
-arriving (reach out) fate = none
-arriving (answer policy out) fate = none
-arriving lose_answer fate = none
+arriving (calls c out) fate = None
+arriving lose_request fate = None
+arriving (reach out) fate = None
+arriving (answer policy out) fate = None
+arriving lose_answer fate = None
 arriving arrive fate = on_way fate
-arriving sent fate = none
-arriving failed fate = none
+arriving sent fate = None
+arriving failed fate = None
 
 -- what has come in this gathering, after one event and after a run
 unfoldable pub received_by : Event → System → List Message → List Message
@@ -167,16 +166,16 @@ received modes_of [] s got = got
 received modes_of (e ∷ events) s got = received modes_of events (step modes_of e s) (received_by e s got)
 
 -- an answer that arrives and is new: awaited, not BUSY, no page that came before, and not the two hundredth without an end
-unfoldable pub is_new : Wait → List ℕ → Message → List Message → Bool
+unfoldable pub is_new : Option Request → List ℕ → Message → List Message → Bool
 is_new w list m got = is_answer w m && (not (is_page_answer m && has_come m got) && not (is_too_many list (m ∷ got)))
 
-unfoldable pub new_in : Wait → List ℕ → Outcome → List Message → Bool
+unfoldable pub new_in : Option Request → List ℕ → Outcome → List Message → Bool
 new_in w list (refused number) got = false
 new_in w list (accepted e m) got = is_new w list m got
 
-abbrev pub new_of : Wait → List ℕ → Option (List ℕ) → List Message → Bool
-new_of w list none got = false
-new_of w list (some bytes) got = new_in w list (read_outcome bytes) got
+abbrev pub new_of : Option Request → List ℕ → Option (List ℕ) → List Message → Bool
+new_of w list None got = false
+new_of w list (Some bytes) got = new_in w list (read_outcome bytes) got
 
 abbrev pub brings_new : Event → System → List Message → Bool
 brings_new e s got = new_of s.laptop.wait (listed s.dock) (arriving e s.fate) got

@@ -1,6 +1,6 @@
 -- How a run over the link is written, and what is seen of it: the start, the view of a system, the events of an exchange, and the runs that give something
 -- else than they say.
-use Rattle.std.specs.Prelude.{ℕ, ◌+◌, ◌*◌, ◌/◌, ◌%◌, Bool, true, false, cond, ◌&&◌, List, [], ◌∷◌, ◌++◌}
+use Rattle.std.specs.Prelude.{ℕ, ◌+◌, ◌*◌, ◌/◌, ◌%◌, Bool, true, false, cond, ◌&&◌, List, [], ◌∷◌, ◌++◌, Option, Some, None}
 use Rattle.messages.specs.Editions.{ours}
 use Rattle.pages.specs.Pages.{per_page}
 use Rattle.taking.specs.Taking.{same_list}
@@ -12,8 +12,7 @@ use Rattle.dock.specs.declared.Standing.{Standing as DockStanding}
 use Rattle.dock.specs.declared.Standing.TheVariants.{Ready, Asking, Sending}
 use Rattle.laptop.specs.declared.Candidate.{Candidate}
 use Rattle.laptop.specs.declared.Candidate.TheVariants.{Absent, Open, Done}
-use Rattle.laptop.specs.declared.Wait.{Wait}
-use Rattle.laptop.specs.declared.Wait.TheVariants.{Nothing, Answer}
+use Rattle.messages.specs.declared.request.Request.{Request}
 use Rattle.laptop_laws.specs.Effects.{Call, next, timer, protocol_error}
 use Rattle.catalogue.specs.Bytes.{held_catalogue, held_bytes}
 use Rattle.link.specs.Cases.{Case, Standing, fresh, after, gathers_old, up_from, buffer, exchange}
@@ -68,9 +67,9 @@ dock_seen Ready = ready
 dock_seen (Asking r) = asking
 dock_seen (Sending is_page) = sending
 
-abbrev pub awaited_in : Wait → ℕ
-awaited_in Nothing = 0
-awaited_in (Answer r) = r.command
+abbrev pub awaited_in : Option Request → ℕ
+awaited_in None = 0
+awaited_in (Some r) = r.command
 
 abbrev pub view : ℕ → ℕ → ℕ → ℕ → ℕ → ℕ → List ℕ
 view candidate pages lost page standing awaited = candidate ∷ pages ∷ lost ∷ page ∷ standing ∷ awaited ∷ []

@@ -10,8 +10,7 @@ use Rattle.dock.specs.Data.{listed}
 use Rattle.dock.specs.declared.Dock.{Dock}
 use Rattle.laptop.specs.State.{identity_request}
 use Rattle.laptop.specs.declared.Candidate.TheVariants.{Absent}
-use Rattle.laptop.specs.declared.Wait.TheVariants.{Answer as LaptopAnswer}
-use Rattle.laptop.specs.declared.Wait.TheVariants.{Nothing as LaptopNothing}
+use Rattle.std.specs.Prelude.{Some, None}
 use Rattle.owner.specs.Owner.{any_entered}
 use Rattle.port.specs.Sides.{is_others, seen}
 use Rattle.port.specs.declared.Side.{Side}
@@ -34,7 +33,7 @@ use Rattle.links.proofs.Shares.{near_is_01s, share_runs}
 module _ (modes_of : Side → ℕ → List ℕ) (side : Side) where
   -- it begins when a call for the side, at rest there, sends Discover Identity
   pub begins_on : (j : Joint) → AtRest (system_seen side j) → (out : List ℕ) (c : Call) → is_away side (calls c out) j ≡ false →
-      (seen side (step modes_of (calls c out) j).port).wait ≡ LaptopAnswer identity_request → Begins (system_seen side (step modes_of (calls c out) j))
+      (seen side (step modes_of (calls c out) j).port).wait ≡ Some identity_request → Begins (system_seen side (step modes_of (calls c out) j))
   begins_on j rest out c near asks =
       let is = near_is_01s modes_of side (calls c out) j near in
       subst Begins (sym is)
@@ -103,8 +102,8 @@ module _ (modes_of : Side → ℕ → List ℕ) (side : Side) (start : Joint) (m
   pub requests_on : RequestTaken there
   requests_on = so RequestTaken (request_taken (modes_of side) (system_seen side start) meets begun (share modes_of side events start))
 
-  pub asks_on : (out : List ℕ) → 28 ≤ length out → there.laptop.wait ≡ LaptopNothing → any_entered there.memory.entered ≡ false →
+  pub asks_on : (out : List ℕ) → 28 ≤ length out → there.laptop.wait ≡ None → any_entered there.memory.entered ≡ false →
       NextAsks (modes_of side) d there came out
   asks_on out room =
-      so (λ s. s.laptop.wait ≡ LaptopNothing → any_entered s.memory.entered ≡ false → NextAsks (modes_of side) d s came out)
+      so (λ s. s.laptop.wait ≡ None → any_entered s.memory.entered ≡ false → NextAsks (modes_of side) d s came out)
       (asks_for_what_is_needed (modes_of side) (system_seen side start) meets begun (share modes_of side events start) out room)

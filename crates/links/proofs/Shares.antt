@@ -6,14 +6,13 @@ use Prim.Native.Nat.{ℕ}
 use Rattle.messages.specs.Reading.{read_outcome}
 use Rattle.laptop.specs.State.{Memory}
 use Rattle.laptop.specs.declared.Laptop.{Laptop}
-use Rattle.laptop.specs.declared.Wait.TheVariants.{Nothing as LaptopNothing}
+use Rattle.std.specs.Prelude.{None}
 use Rattle.laptop_laws.specs.Effects.{Effect as LaptopEffect}
 use Rattle.port.specs.Calls.{is_waiting, waiting_side}
-use Rattle.port.specs.Sides.{same_side, is_others, seen, put_back}
+use Rattle.port.specs.Sides.{Wait, same_side, is_others, seen, put_back}
 use Rattle.port.specs.declared.Port.{Port}
 use Rattle.port.specs.declared.Side.{Side}
 use Rattle.port.specs.declared.Side.TheVariants.{Partner, Cable}
-use Rattle.port.specs.declared.Wait.{Wait}
 use Rattle.port_laws.specs.Effects.{Call, message, next, start_over, drop, enter, exit, timer, protocol_error, one_sided, concerns, memory_of, effect_in}
 use Rattle.port_laws.specs.Leaving.{is_others_call, is_blocked, is_left_out}
 use Rattle.port_laws.proofs.OneCall.{put_on, kept_in, own_side, concerns_other, own_seen, not_same, parts}
@@ -63,13 +62,13 @@ system_other Cable Cable l p far j e f = absurd (false≢true (sym e))
 -- on a link, where a side awaits nothing it awaits nothing afterwards
 module _ (modes_of : ℕ → List ℕ) where
   -- what arrives leaves a laptop that awaits nothing awaiting nothing
-  arrives_idle : (fate : Fate) (s : System) → s.laptop.wait ≡ LaptopNothing → (arrives fate s).laptop.wait ≡ LaptopNothing
+  arrives_idle : (fate : Fate) (s : System) → s.laptop.wait ≡ None → (arrives fate s).laptop.wait ≡ None
   arrives_idle gone s idle = idle
   arrives_idle (coming bytes) s idle = message_idle s.laptop s.memory idle (read_outcome bytes)
   arrives_idle (confirmed bytes) s idle = message_idle s.laptop s.memory idle (read_outcome bytes)
   arrives_idle (came b) s idle = idle
 
-  idle_on_link : (e : LinkEvent) (s : System) → is_call e ≡ false → s.laptop.wait ≡ LaptopNothing → (link_step modes_of e s).laptop.wait ≡ LaptopNothing
+  idle_on_link : (e : LinkEvent) (s : System) → is_call e ≡ false → s.laptop.wait ≡ None → (link_step modes_of e s).laptop.wait ≡ None
   unfolding link_step
   idle_on_link (link_calls c out) s f idle = absurd (false≢true (sym f))
   idle_on_link link_lose_request s f idle = idle

@@ -11,8 +11,8 @@ use borrow.Author.Tests.{leb-true, leb-false}
 use Rattle.laptop.specs.Catalogue.{Catalogue}
 use Rattle.catalogue.specs.Bytes.{catalogue_bytes}
 use Rattle.records.specs.Records.{cut_record, found_in}
-use Rattle.records.specs.declared.Found.{Found}
-use Rattle.records.specs.declared.Found.TheVariants.{Whole, Unknown, Cut, Nothing}
+use Rattle.records.specs.Records.{Found}
+use Rattle.records.specs.Records.{Whole, Unknown, Cut, Nothing}
 use Rattle.records.specs.declared.Record.{Record}
 use Rattle.records.specs.declared.Record.TheVariants.{End}
 use Rattle.records.proofs.Laws.{whole_length}

@@ -11,7 +11,7 @@ use borrow.Author.Tests.{eqb-true, eqb-false}
 use Rattle.laptop.specs.Catalogue.{Catalogue}
 use Rattle.catalogue.specs.Bytes.{least_objects}
 use Rattle.records.specs.Records.{found_in}
-use Rattle.records.specs.declared.Found.TheVariants.{Whole}
+use Rattle.records.specs.Records.{Whole}
 use Rattle.records.specs.declared.Record.{Record}
 use Rattle.records.specs.declared.Record.TheVariants.{Identity, Svid, Mode, End}
 use Rattle.records.proofs.Bodies.{identity_bounds}

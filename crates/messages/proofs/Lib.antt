@@ -2,6 +2,7 @@
 pub mod Editions
 pub mod Header
 pub mod Laws
+pub mod Numbers
 pub mod Objects
 pub mod Refusals
 pub mod Requests

@@ -2,74 +2,71 @@
 
 // The owner's calls that enter and exit modes: document 01, "The laptop end".
 ghost use Rattle.std.specs.Prelude.{◌≡◌};
+ghost use Rattle.messages.specs.Refusals.{number_in};
 ghost use Rattle.laptop.specs.Marks.{is_entered};
+ghost use Rattle.laptop.specs.Step.{stepped};
 ghost use Rattle.owner.specs.Owner.{has_mode, enter_refusal, exit_refusal, Enters, Exits};
 
 use laptop::{
-    Candidate, Laptop, Step, held_list, modes_number, named, number_at, place_of, refused,
+    Accepted, Candidate, Laptop, Refused, held_list, modes_number, named, place_of, refuse,
 };
-use messages::{ENTER, EXIT, Request};
-use owner::{ask, owner_refusal};
+use messages::{ENTER, EXIT, Refusal, Request, item_or};
+use owner::{ask, owner_check};
 
+#[tactic(auto, unfolding(laptop::specs::Marks::is_entered))]
 fn is_entered(entered: &[u8], place: usize, position: u8) -> bool
     ensures { result ≡ is_entered entered.now place position }
 {
-    number_at(entered, place) & named(position) != 0
+    item_or(entered, place, 0) & named(position) != 0
 }
 
 // Is the position one of the modes of the SVID at the place?
+#[tactic(auto, unfolding(owner::specs::Owner::has_mode))]
 fn has_mode(modes: &[u8], place: usize, position: u8) -> bool
     ensures { result ≡ has_mode modes.now place position }
 {
-    if position < 1 {
-        return false;
-    }
-    position <= modes_number(modes, place)
+    (1..=modes_number(modes, place)).contains(&position)
 }
 
-// What refuses *enter* of a held catalogue: 12 if it lacks the mode, 13 if that is entered; else 0.
-fn enter_refusal(list: &[u16], modes: &[u8], entered: &[u8], svid: u16, position: u8) -> u8
-    ensures { result ≡ enter_refusal list.now modes.now entered.now svid position }
+// What *enter* is refused for: the held catalogue lacks the mode, or that is entered.
+#[tactic(auto, unfolding(owner::specs::Owner::enter_refusal))]
+fn enter_check(
+    list: &[u16],
+    modes: &[u8],
+    entered: &[u8],
+    svid: u16,
+    position: u8,
+) -> Result<(), Refusal>
+    ensures { number_in result ≡ enter_refusal list.now modes.now entered.now svid position }
 {
     let place = place_of(svid, list);
-    if list.len() <= place {
-        return 12;
+    if list.len() <= place || !has_mode(modes, place, position) {
+        Err(Refusal::NotHeld)
+    } else if is_entered(entered, place, position) {
+        Err(Refusal::Blocked)
+    } else {
+        Ok(())
     }
-    if !has_mode(modes, place, position) {
-        return 12;
-    }
-    if is_entered(entered, place, position) {
-        return 13;
-    }
-    0
 }
 
-// What refuses *exit*: 12 if the SVID is not held, or the position is neither 7 nor one of its modes; 13 if it is not entered; else 0.
-fn exit_refusal(list: &[u16], modes: &[u8], entered: &[u8], svid: u16, position: u8) -> u8
-    ensures { result ≡ exit_refusal list.now modes.now entered.now svid position }
+// What *exit* is refused for: the SVID is not held, or the position is neither 7 nor one of its modes; or it is not entered.
+#[tactic(auto, unfolding(owner::specs::Owner::exit_refusal))]
+fn exit_check(
+    list: &[u16],
+    modes: &[u8],
+    entered: &[u8],
+    svid: u16,
+    position: u8,
+) -> Result<(), Refusal>
+    ensures { number_in result ≡ exit_refusal list.now modes.now entered.now svid position }
 {
     let place = place_of(svid, list);
-    if list.len() <= place {
-        return 12;
-    }
-    if position != 7 {
-        if !has_mode(modes, place, position) {
-            return 12;
-        }
-    }
-    if is_entered(entered, place, position) {
-        return 0;
-    }
-    13
-}
-
-fn named_by(command: u8, svid: u16, position: u8) -> Request
-    ensures { result ≡ record { svid = svid; command = command; position = position } }
-{
-    Request {
-        svid,
-        command,
-        position,
+    if list.len() <= place || position != 7 && !has_mode(modes, place, position) {
+        Err(Refusal::NotHeld)
+    } else if is_entered(entered, place, position) {
+        Ok(())
+    } else {
+        Err(Refusal::Blocked)
     }
 }
 
@@ -83,24 +80,27 @@ pub fn enter(
     run: &[u32],
     held_run: &[u32],
     out: &mut [u8],
-) -> Step
-    ensures { Enters laptop svid position held_svids.now held_modes.now entered.now run.now held_run.now out.old result out.new }
+) -> Result<Accepted, Refused>
+    ensures { Enters laptop svid position held_svids.now held_modes.now entered.now run.now held_run.now out.old (stepped result) out.new }
 {
-    let number = owner_refusal(laptop, run, held_run);
-    if number != 0 {
-        return refused(number, laptop);
+    owner_check(laptop, run, held_run).map_err(|refusal| Refused { refusal, laptop })?;
+    if laptop.candidate != Candidate::Absent {
+        return refuse(Refusal::Blocked, laptop);
     }
-    let candidate = laptop.candidate;
-    let Candidate::Absent = candidate else {
-        return refused(13, laptop);
-    };
-    let held = laptop.held;
-    let list = held_list(held, held_svids);
-    let lacks = enter_refusal(list, held_modes, entered, svid, position);
-    if lacks != 0 {
-        return refused(lacks, laptop);
-    }
-    ask(laptop, named_by(ENTER, svid, position), out)
+    let list = held_list(laptop.held, held_svids);
+    enter_check(list, held_modes, entered, svid, position).map_err(|refusal| Refused {
+        refusal,
+        laptop,
+    })?;
+    ask(
+        laptop,
+        Request {
+            svid,
+            command: ENTER,
+            position,
+        },
+        out,
+    )
 }
 
 pub fn exit(
@@ -113,18 +113,22 @@ pub fn exit(
     run: &[u32],
     held_run: &[u32],
     out: &mut [u8],
-) -> Step
-    ensures { Exits laptop svid position held_svids.now held_modes.now entered.now run.now held_run.now out.old result out.new }
+) -> Result<Accepted, Refused>
+    ensures { Exits laptop svid position held_svids.now held_modes.now entered.now run.now held_run.now out.old (stepped result) out.new }
 {
-    let number = owner_refusal(laptop, run, held_run);
-    if number != 0 {
-        return refused(number, laptop);
-    }
-    let held = laptop.held;
-    let list = held_list(held, held_svids);
-    let lacks = exit_refusal(list, held_modes, entered, svid, position);
-    if lacks != 0 {
-        return refused(lacks, laptop);
-    }
-    ask(laptop, named_by(EXIT, svid, position), out)
+    owner_check(laptop, run, held_run).map_err(|refusal| Refused { refusal, laptop })?;
+    let list = held_list(laptop.held, held_svids);
+    exit_check(list, held_modes, entered, svid, position).map_err(|refusal| Refused {
+        refusal,
+        laptop,
+    })?;
+    ask(
+        laptop,
+        Request {
+            svid,
+            command: EXIT,
+            position,
+        },
+        out,
+    )
 }

@@ -11,7 +11,7 @@ use Rattle.laptop.specs.State.{dropped, awaiting, identity_request, identity_ask
 use Rattle.laptop.specs.declared.Candidate.{Candidate}
 use Rattle.laptop.specs.declared.Candidate.TheVariants.{Absent, Open, Done}
 use Rattle.laptop.specs.declared.Laptop.{Laptop}
-use Rattle.laptop.specs.declared.Step.{Step}
+use Rattle.laptop.specs.Step.{Step}
 use Rattle.laptop.specs.declared.Told.TheVariants.{Nothing}
 
 -- all are refused 11 for a short run, and 7 while waiting; run and held_run are the lengths of what is lent

@@ -2,12 +2,12 @@
 use mathlib.Core.Path.{◌≡◌, refl, ap, ap₂, sym, ◌∙◌}
 use mathlib.Core.Bool.{Bool, true, false, cond}
 use mathlib.Core.List.{List, [], ◌∷◌, ◌++◌}
-use Prim.Native.Nat.{ℕ, zero, suc, ◌+◌, ◌*◌, ◌-◌, ◌/◌, ◌%◌, ◌^◌, ◌<◌, ◌≤◌}
+use Prim.Native.Nat.{ℕ, zero, suc, ◌+◌, ◌*◌, ◌-◌, ◌/◌, ◌%◌, ◌^◌, ◌<◌, ◌≤◌, min}
 use native.Mathlib.Omega.{arith}
 use lib.Dec.{leb, ltb}
 use lib.ListN.{length, get_or, take, replicate, length-append, length-drop, length-replicate}
 use lib.Seq.{get_or-drop, get_or-take, length-take-le}
-use borrow.Author.Tests.{ltb-true, ltb-false, le-leb, lt-leb, lt-ltb, le-ltb}
+use borrow.Author.Tests.{leb-true, leb-false, ltb-true, ltb-false, le-leb, lt-leb, lt-ltb, le-ltb}
 use Rattle.laws.specs.Bounded.{Below}
 use Rattle.laws.specs.Padded.{padded}
 use Rattle.laws.proofs.Padded.{padded_at}
@@ -104,15 +104,13 @@ module _ (list : List ℕ) (p : ℕ) where
   left : length (remaining list p) ≡ length list - p * 12
   left = length-drop (p * 12) list
 
-  -- the number of objects: past the list, full, and at its end
-  pub count_past : length list < p * 12 → 1 ≡ length (page list p)
-  count_past h = omega (arith, left, length_page, length_values_last (remaining list p) (omega (arith, left)))
-
-  pub count_full : 12 ≤ length list - p * 12 → 6 ≡ length (page list p)
-  count_full h = omega (arith, left, length_page, length_values_full (remaining list p) (omega (arith, left)))
-
-  pub count_last : p * 12 ≤ length list → length list - p * 12 < 12 → (length list - p * 12) / 2 + 1 ≡ length (page list p)
-  count_last l h = omega (arith, left, length_page, length_values_last (remaining list p) (omega (arith, left)))
+  -- the number of objects: six where twelve values remain, and else those of what remains and its ending
+  pub count_is : (count : ℕ) → count ≡ min ((length list - p * 12) / 2 + 1) 6 → count ≡ length (page list p)
+  count_is count e = go (leb 12 (length (remaining list p))) refl
+    where
+      go : (t : Bool) → leb 12 (length (remaining list p)) ≡ t → count ≡ length (page list p)
+      go true h = let l : 12 ≤ length (remaining list p) = leb-true _ _ h in omega (arith, left, length_page, length_values_full (remaining list p) l)
+      go false h = let l : length (remaining list p) < 12 = leb-false _ _ h in omega (arith, left, length_page, length_values_last (remaining list p) l)
 
   pub shown_page_lem : (objects : List ℕ) (count : ℕ) → objects ≡ pairs_from list (p * 12) → count ≡ length (page list p) →
       ◌≡◌ {A = Page} (record { objects = objects; count = count }) (shown_page (page list p))
@@ -128,7 +126,3 @@ module _ (list : List ℕ) (p : ℕ) where
       go : (t : Bool) → ltb (length list) (p * 12 + 12) ≡ t → ltb (length list) (p * 12 + 12) ≡ ltb (length (remaining list p)) 12
       go true e = e ∙ sym (lt-ltb (length (remaining list p)) 12 (omega (arith, left, ltb-true (length list) (p * 12 + 12) e)))
       go false e = e ∙ sym (le-ltb (length (remaining list p)) 12 (omega (arith, left, ltb-false (length list) (p * 12 + 12) e)))
-
-pub pairs_from_lem : (list : List ℕ) (at p q r s t u : ℕ) → p ≡ pair_at list at → q ≡ pair_at list (at + 2) → r ≡ pair_at list (at + 4) →
-    s ≡ pair_at list (at + 6) → t ≡ pair_at list (at + 8) → u ≡ pair_at list (at + 10) → p ∷ q ∷ r ∷ s ∷ t ∷ u ∷ [] ≡ pairs_from list at
-pairs_from_lem list at p q r s t u ep eq er es et eu = rw (ep, eq, er, es, et, eu)

@@ -1,5 +1,5 @@
 -- Scanning a list, one element after the other.
-use mathlib.Core.Path.{◌≡◌, refl, ap, ◌∙◌}
+use mathlib.Core.Path.{◌≡◌, refl, ap}
 use mathlib.Core.Bool.{Bool, true, false, not, ◌&&◌, ◌||◌}
 use mathlib.Core.List.{List, [], ◌∷◌}
 use Prim.Native.Nat.{ℕ, zero, suc, ◌+◌, ◌-◌, ◌<◌, ◌≤◌}
@@ -8,7 +8,8 @@ use native.Mathlib.Omega.{arith}
 use lib.Dec.{eqb}
 use lib.ListN.{length, get_or, take, drop, drop_of_length-le, length-drop}
 use lib.Seq.{drop-cons, take_all}
-use borrow.Author.Tests.{eq-eqb, ne_eqb, eqb-false, not-true}
+use borrow.Author.Tests.{eqb-false, not-true}
+use Rattle.std.proofs.lemmas.Bool.Decides.{nat_tests}
 use Rattle.laws.proofs.Lines.{and_left, and_right}
 use Rattle.pages.specs.Lists.{is_in, sound_list}
 use Rattle.pages.specs.Pages.{NoZero}
@@ -26,20 +27,10 @@ module _ (l : List ℕ) (i : ℕ) (h : i < length l) where
   in_next true svid = refl
   in_next false svid = in_step svid
 
-  sound_step :
+  pub sound_step :
       sound_list (drop i l) ≡ (not (eqb (get_or l i 0) 0) && (not (is_in (get_or l i 0) (drop (i + 1) l)) && sound_list (drop (i + 1) l)))
   unfolding sound_list
   sound_step = ap sound_list next
-
-  pub sound_zero : get_or l i 0 ≡ 0 → sound_list (drop i l) ≡ false
-  sound_zero e =
-      sound_step ∙ ap (λ (t : Bool). not t && (not (is_in (get_or l i 0) (drop (i + 1) l)) && sound_list (drop (i + 1) l))) (eq-eqb _ _ e)
-
-  pub sound_twice : (get_or l i 0 ≡ 0 → ⊥) → is_in (get_or l i 0) (drop (i + 1) l) ≡ true → sound_list (drop i l) ≡ false
-  sound_twice z e = sound_step ∙ rw (ne_eqb _ _ z, e)
-
-  pub sound_next : (get_or l i 0 ≡ 0 → ⊥) → is_in (get_or l i 0) (drop (i + 1) l) ≡ false → sound_list (drop i l) ≡ sound_list (drop (i + 1) l)
-  sound_next z e = sound_step ∙ rw (ne_eqb _ _ z, e)
 
 -- at the end nothing is left
 in_none : (svid : ℕ) (l : List ℕ) (i : ℕ) → length l ≤ i → is_in svid (drop i l) ≡ false
@@ -58,6 +49,9 @@ sound_none l i h = ap sound_list (drop_of_length-le l h)
 pub rest_part : (l : List ℕ) (i : ℕ) → take (length l - i) (drop i l) ≡ drop i l
 rest_part l i = take_all (length l - i) (drop i l) (omega (arith, length-drop i l))
 
+-- what a step of `sound` needs
+pub ruleset sound_steps = (sound_step, sound_none, rest_part, nat_tests)
+
 pub sound_no_zero : (list : List ℕ) → sound_list list ≡ true → NoZero list
 unfolding sound_list
 sound_no_zero [] e k h z = omega arith
@@ -66,3 +60,4 @@ sound_no_zero (s ∷ list) e zero h z =
 sound_no_zero (s ∷ list) e (suc k) h z =
     sound_no_zero list (and_right (not (is_in s list)) (sound_list list) (and_right (not (eqb s 0)) (not (is_in s list) && sound_list list) e)) k
     (omega arith) z
+

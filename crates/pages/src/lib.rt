@@ -7,6 +7,7 @@ ghost use Rattle.std.specs.Prelude.{◌≡◌, ◌<◌, get_or};
 ghost use Rattle.pages.specs.Pages.{page as Pages·page, is_last, pair_at, pairs_from, shown_page};
 
 pub use list::{first_svids, is_in, sound};
+use messages::item_or;
 
 // A page's objects stand first among the six words, and zeros behind them.
 #[derive(Clone, Copy)]
@@ -23,7 +24,7 @@ pub const MOST_SVIDS: usize = 72;
 fn value_at(list: &[u16], i: usize) -> u32
     ensures { (result ≡ get_or list.now i 0) × (result < 65536) }
 {
-    if i < list.len() { list[i] as u32 } else { 0 }
+    u32::from(item_or(list, i, 0))
 }
 
 // The values at i and after it as an object, the first in the high half.
@@ -38,32 +39,18 @@ fn pairs_from(list: &[u16], at: usize) -> [u32; 6]
     requires { at < 4000 }
     ensures { result ≡ pairs_from list.now at }
 {
-    [
-        pair_at(list, at),
-        pair_at(list, at + 2),
-        pair_at(list, at + 4),
-        pair_at(list, at + 6),
-        pair_at(list, at + 8),
-        pair_at(list, at + 10),
-    ]
+    std::array::from_fn(|k| pair_at(list, at + 2 * k))
 }
 
-// The page of a list.
+// The page of a list. Two values stand in an object, and an even number of them is followed by one more.
 pub fn make_page(list: &[u16], page: u8) -> Page
     ensures { result ≡ shown_page (Pages·page list.now page) }
 {
-    let at = (page as usize) * PER_PAGE;
-    let objects = pairs_from(list, at);
-    if list.len() < at {
-        return Page { objects, count: 1 };
-    }
-    let rest = list.len() - at;
-    if PER_PAGE <= rest {
-        return Page { objects, count: 6 };
-    }
+    let at = usize::from(page) * PER_PAGE;
+    let rest = list.len().saturating_sub(at);
     Page {
-        objects,
-        count: (rest / 2 + 1) as u8,
+        objects: pairs_from(list, at),
+        count: (rest / 2 + 1).min(6) as u8,
     }
 }
 
@@ -71,6 +58,5 @@ pub fn make_page(list: &[u16], page: u8) -> Page
 pub fn is_last(list: &[u16], page: u8) -> bool
     ensures { result ≡ is_last list.now page }
 {
-    let at = (page as usize) * PER_PAGE;
-    list.len() < at + PER_PAGE
+    list.len() < usize::from(page) * PER_PAGE + PER_PAGE
 }

@@ -1,18 +1,18 @@
 -- Two laptops of document 01 and one wait (02, R-4).
-use Rattle.std.specs.Prelude.{Bool, true, false, cond, not}
+use Rattle.std.specs.Prelude.{Bool, true, false, cond, not, Option, Some, None}
 use Rattle.laptop.specs.State.{fresh_laptop}
 use Rattle.laptop.specs.declared.Laptop.{Laptop}
-use Rattle.laptop.specs.declared.Step.{Step as LaptopAsStep}
-use Rattle.laptop.specs.declared.Wait.{Wait as LaptopWait}
-use Rattle.laptop.specs.declared.Wait.TheVariants.{Nothing as LaptopNothing}
-use Rattle.laptop.specs.declared.Wait.TheVariants.{Answer as LaptopAnswer}
+use Rattle.laptop.specs.Step.{Step as LaptopAsStep}
+use Rattle.messages.specs.declared.request.Request.{Request}
 use Rattle.port.specs.declared.Own.{Own}
 use Rattle.port.specs.declared.Port.{Port}
 use Rattle.port.specs.declared.Side.{Side}
 use Rattle.port.specs.declared.Side.TheVariants.{Partner, Cable}
-use Rattle.port.specs.declared.Step.{Step}
-use Rattle.port.specs.declared.Wait.{Wait}
-use Rattle.port.specs.declared.Wait.TheVariants.{Nothing, Answer}
+use Rattle.port.specs.Step.{Step}
+
+-- the request whose answer is awaited, with its side
+abbrev pub Wait : Type 0
+Wait = Option (Side × Request)
 
 abbrev pub same_side : Side → Side → Bool
 same_side Partner Partner = true
@@ -22,20 +22,20 @@ same_side Cable Cable = true
 
 -- the other side's answer is awaited
 abbrev pub is_others : Side → Wait → Bool
-is_others side Nothing = false
-is_others side (Answer named r) = not (same_side named side)
+is_others side None = false
+is_others side (Some (named, r)) = not (same_side named side)
 
 -- to a side, what the other awaits is nothing
-abbrev pub wait_seen : Side → Wait → LaptopWait
-wait_seen side Nothing = LaptopNothing
-wait_seen side (Answer named r) = cond (same_side named side) (LaptopAnswer r) LaptopNothing
+abbrev pub wait_seen : Side → Wait → Option Request
+wait_seen side None = None
+wait_seen side (Some (named, r)) = cond (same_side named side) (Some r) None
 
-abbrev pub wait_named : Side → LaptopWait → Wait
-wait_named side LaptopNothing = Nothing
-wait_named side (LaptopAnswer r) = Answer side r
+abbrev pub wait_named : Side → Option Request → Wait
+wait_named side None = None
+wait_named side (Some r) = Some (side, r)
 
 -- what is awaited once a side awaits this; what the other awaits stays
-abbrev pub wait_put : Side → LaptopWait → Wait → Wait
+abbrev pub wait_put : Side → Option Request → Wait → Wait
 wait_put side after before = cond (is_others side before) before (wait_named side after)
 
 abbrev pub own_of : Side → Port → Own
@@ -46,7 +46,7 @@ abbrev pub own_in : Laptop → Own
 own_in l =
     record { candidate = l.candidate; gathered = l.gathered; stored = l.stored; pages = l.pages; held = l.held; edition = l.edition }
 
-abbrev pub laptop_with : LaptopWait → Own → Laptop
+abbrev pub laptop_with : Option Request → Own → Laptop
 laptop_with wait own =
     record {
       wait = wait;
@@ -77,4 +77,4 @@ stepped_on side p s =
 
 -- nothing is awaited; on neither side is anything gathered or held
 abbrev pub fresh_port : Port
-fresh_port = record { wait = Nothing; partner = own_in fresh_laptop; cable = own_in fresh_laptop }
+fresh_port = record { wait = None; partner = own_in fresh_laptop; cable = own_in fresh_laptop }

@@ -8,8 +8,8 @@ use Rattle.messages.specs.Reading.{read_outcome}
 use Rattle.laptop.specs.Calls.{Decision, refused_by, step_of, buffer_of, unless, short_runs}
 use Rattle.laptop.specs.State.{Memory}
 use Rattle.laptop.specs.declared.Laptop.{Laptop}
-use Rattle.laptop.specs.declared.Wait.{Wait as LaptopWait}
-use Rattle.laptop.specs.declared.Wait.TheVariants.{Nothing as LaptopNothing}
+use Rattle.std.specs.Prelude.{Option, None, Some}
+use Rattle.messages.specs.declared.request.Request.{Request}
 use Rattle.owner.specs.Owner.{owner_refusal, asking_refusal, decide_next, decide_start_over, decide_drop, decide_enter, decide_exit}
 use Rattle.timers.specs.Timers.{decide_timer, decide_error}
 use Rattle.laptop_laws.specs.Effects.{timer as laptop_timer}
@@ -18,13 +18,10 @@ use Rattle.laptop_laws.specs.Effects.{decided}
 use Rattle.laptop_laws.specs.Effects.{effect_of as laptop_effect_of}
 use Rattle.laptop_laws.specs.Effects.{Effect as LaptopEffect}
 use Rattle.port.specs.Calls.{is_waiting, owners_refusal, waiting_side}
-use Rattle.port.specs.Sides.{same_side, is_others, seen, put_back, stepped_on}
+use Rattle.port.specs.Sides.{Wait, same_side, is_others, seen, put_back, stepped_on}
 use Rattle.port.specs.declared.Port.{Port}
 use Rattle.port.specs.declared.Side.{Side}
 use Rattle.port.specs.declared.Side.TheVariants.{Partner, Cable}
-use Rattle.port.specs.declared.Wait.{Wait}
-use Rattle.port.specs.declared.Wait.TheVariants.{Nothing}
-use Rattle.port.specs.declared.Wait.TheVariants.{Answer as WaitAnswer}
 use Rattle.port_laws.specs.Effects.{Call, message, next, start_over, drop, enter, exit, timer, protocol_error, one_sided, concerns, is_owners, Effect, decided_on, effect_of, on_side, effect_seen, Kept, memory_of, of_side, kept_on, effect_in, kept_by_of, answer_of, answer_on_side}
 use Rattle.port_laws.specs.Leaving.{is_others_call, is_blocked, is_left_out, laptop_by}
 use Rattle.port_laws.proofs.Seeing.{message_idle, effect_seen_lem, refused_nine, timer_nine, error_nine}
@@ -115,7 +112,7 @@ module _ (side : Side) (c : Call) (out : List ℕ) (k : Kept) where
       ap (λ (s : Side). effect_of c k.port (memory_of s k) out) at ∙ effect_seen_lem side k.port m out c at free
 
   module _ (at : concerns c k.port.wait ≡ side) (free : is_blocked side c k ≡ false)
-      (idle : is_others side k.port.wait ≡ true → one.step.laptop.wait ≡ LaptopNothing) where
+      (idle : is_others side k.port.wait ≡ true → one.step.laptop.wait ≡ None) where
     seen_after : seen side (put_back side one.step.laptop k.port) ≡ one.step.laptop
     seen_after = go (is_others side k.port.wait) refl
       where
@@ -161,7 +158,7 @@ short_leaves protocol_error l m out o e = absurd (false≢true o)
 
 -- where the other waits, such a call of the side leaves it awaiting nothing
 owners_idle : (side : Side) (c : Call) (out : List ℕ) (k : Kept) → is_owners c ≡ true → is_blocked side c k ≡ false → is_others side k.port.wait ≡ true →
-    (laptop_effect_of (one_sided c) (seen side k.port) (memory_of side k) out).step.laptop.wait ≡ LaptopNothing
+    (laptop_effect_of (one_sided c) (seen side k.port) (memory_of side k) out).step.laptop.wait ≡ None
 owners_idle side c out k o free others =
     ap (λ (x : Laptop). x.wait) (short_leaves c (seen side k.port) (memory_of side k) out o
     (short (is_owners c) (is_others side k.port.wait) (short_runs (length (memory_of side k).run) (length (memory_of side k).held_run)) o others free)) ∙
@@ -174,7 +171,7 @@ owners_idle side c out k o free others =
     short false b false e f g = absurd (false≢true e)
 
 -- a timer or the protocol error while nothing is awaited
-module _ (side : Side) (out : List ℕ) (k : Kept) (none : k.port.wait ≡ Nothing) where
+module _ (side : Side) (out : List ℕ) (k : Kept) (none : k.port.wait ≡ None) where
   pub idle_kept : (e : Effect) → e ≡ refused_nine k.port k.partner out → kept_on Partner e k ≡ k
   idle_kept e f = ap (λ (x : Effect). kept_on Partner x k) f ∙ kept_same Partner k (refused_nine k.port k.partner out) (put_seen Partner k.port) refl
 
@@ -191,12 +188,12 @@ module _ (side : Side) (out : List ℕ) (k : Kept) (none : k.port.wait ≡ Nothi
   nine_timer : (first last : ℕ) → laptop_effect_of (laptop_timer first last) (seen side k.port) (memory_of side k) out ≡
       record { step = refused_by 9 (seen side k.port); after = memory_of side k; buffer = out }
   unfolding decide_timer step_of buffer_of
-  nine_timer first last = ap (λ (w : LaptopWait). decided (seen side k.port) (memory_of side k) out (decide_timer first last (seen side k.port) w)) (nothing_seen side k.port none)
+  nine_timer first last = ap (λ (w : Option Request). decided (seen side k.port) (memory_of side k) out (decide_timer first last (seen side k.port) w)) (nothing_seen side k.port none)
 
   nine_error : laptop_effect_of laptop_protocol_error (seen side k.port) (memory_of side k) out ≡
       record { step = refused_by 9 (seen side k.port); after = memory_of side k; buffer = out }
   unfolding decide_error step_of buffer_of
-  nine_error = ap (λ (w : LaptopWait). decided (seen side k.port) (memory_of side k) out (decide_error (seen side k.port) w)) (nothing_seen side k.port none)
+  nine_error = ap (λ (w : Option Request). decided (seen side k.port) (memory_of side k) out (decide_error (seen side k.port) w)) (nothing_seen side k.port none)
 
 pub own_side : (s side : Side) → not (same_side s side) ≡ false → s ≡ side
 own_side s side e = same_side_lem s side (go (same_side s side) e)
@@ -214,7 +211,7 @@ kept_in side c k e = parts (is_others_call side c k.port.wait) (is_blocked side 
 
 -- where the other waits, a call of the side that is not left out leaves it awaiting nothing
 own_idle : (side : Side) (c : Call) (out : List ℕ) (k : Kept) → is_left_out side c k ≡ false → concerns c k.port.wait ≡ side →
-    is_others side k.port.wait ≡ true → (laptop_effect_of (one_sided c) (seen side k.port) (memory_of side k) out).step.laptop.wait ≡ LaptopNothing
+    is_others side k.port.wait ≡ true → (laptop_effect_of (one_sided c) (seen side k.port) (memory_of side k) out).step.laptop.wait ≡ None
 own_idle side (message s bytes) out k e at o = message_idle (seen side k.port) (memory_of side k) (idle_seen side k.port o) (read_outcome bytes)
 own_idle side (next s) out k e at o = owners_idle side (next s) out k refl (kept_in side (next s) k e).1 o
 own_idle side (start_over s) out k e at o = owners_idle side (start_over s) out k refl (kept_in side (start_over s) k e).1 o
@@ -266,8 +263,8 @@ module _ (side : Side) (out : List ℕ) (k : Kept) (others : is_others side k.po
   waiting = go side k.port.wait others
     where
       go : (s : Side) (w : Wait) → is_others s w ≡ true → is_waiting w ≡ true
-      go s Nothing e = e
-      go s (WaitAnswer named r) e = refl
+      go s None e = e
+      go s (Some (named, r)) e = refl
 
   seven : (d : Decision) →
       decided_on side k.port (memory_of side k) out

@@ -12,9 +12,9 @@ use Rattle.messages.specs.declared.edition.Edition.{Edition}
 use Rattle.laptop.specs.Calls.{Decision, refused_by, step_of, unless, short_runs}
 use Rattle.laptop.specs.State.{Memory, is_open, dropped}
 use Rattle.laptop.specs.declared.Laptop.{Laptop}
-use Rattle.laptop.specs.declared.Step.{Step as LaptopAsStep}
-use Rattle.laptop.specs.declared.Wait.{Wait as LaptopWait}
-use Rattle.laptop.specs.declared.Wait.TheVariants.{Nothing as LaptopNothing}
+use Rattle.laptop.specs.Step.{Step as LaptopAsStep}
+use Rattle.std.specs.Prelude.{Option, None}
+use Rattle.messages.specs.declared.request.Request.{Request}
 use Rattle.hearing.specs.Hearing.{is_idle, fits, is_late_page, hear_unawaited, hear, heard}
 use Rattle.laptop_laws.specs.Effects.{Call as LaptopCall}
 use Rattle.laptop_laws.specs.Effects.{message as laptop_message}
@@ -36,7 +36,7 @@ use Rattle.port.specs.Calls.{is_waiting, owners_refusal, waiting_side}
 use Rattle.port.specs.Sides.{is_others, seen, put_back, stepped_on}
 use Rattle.port.specs.declared.Port.{Port}
 use Rattle.port.specs.declared.Side.{Side}
-use Rattle.port.specs.declared.Step.{Step}
+use Rattle.port.specs.Step.{Step}
 use Rattle.port_laws.specs.Effects.{Call, message, next, start_over, drop, enter, exit, timer, protocol_error, effect_of}
 use Rattle.port_laws.specs.Refusing.{RefusedAs, is_page, left_by_unawaited}
 use Rattle.port_laws.proofs.Sides.{put_seen, idle_seen}
@@ -87,7 +87,7 @@ refusal_state protocol_error p m out n =
     let side = waiting_side p.wait in ap (stepped_on side p) (laptop_refusal_state laptop_protocol_error (seen side p) m out n)
 
 -- an answer to a laptop that awaits nothing
-module _ (l : Laptop) (m : Memory) (x : Message) (idle : l.wait ≡ LaptopNothing) where
+module _ (l : Laptop) (m : Memory) (x : Message) (idle : l.wait ≡ None) where
   unawaited : hear_unawaited l x.head ≡ refused_by 6 (left_by_unawaited x.head l)
   unfolding hear_unawaited is_late_page
   unawaited = go (is_idle l.wait) (is_open l.candidate && is_page x.head) (ap is_idle idle)
@@ -100,7 +100,7 @@ module _ (l : Laptop) (m : Memory) (x : Message) (idle : l.wait ≡ LaptopNothin
   answer_six : (at : Edition) → short_runs (length m.run) (length m.held_run) ≡ false → eqb x.head.kind req ≡ false →
       (heard l m (accepted at x)).step ≡ refused_by 6 (left_by_unawaited x.head l)
   unfolding heard hear
-  answer_six at long answer = rw (long, answer, ap (λ (w : LaptopWait). fits w x.head) idle) unawaited
+  answer_six at long answer = rw (long, answer, ap (λ (w : Option Request). fits w x.head) idle) unawaited
 
 -- what does not hold, a test tells so
 tells_none : (t : Bool) (holds : Type 0) → Tells t holds → (holds → ⊥) → t ≡ false

@@ -12,60 +12,58 @@ use Rattle.laptop.specs.Calls.{Decision, refuses, refused_by, accepted_with, ste
 use Rattle.laptop.specs.State.{Memory, dropped}
 use Rattle.laptop.specs.declared.Laptop.{Laptop}
 use Rattle.laptop.specs.declared.Told.TheVariants.{Attention}
-use Rattle.laptop.specs.declared.Wait.{Wait as LaptopWait}
-use Rattle.laptop.specs.declared.Wait.TheVariants.{Nothing as LaptopNothing}
+use Rattle.std.specs.Prelude.{Option, None}
+use Rattle.messages.specs.declared.request.Request.{Request}
 use Rattle.hearing.specs.Hearing.{only, notice_of, fits, is_late_page, hear_request, hear_unawaited, hear_answer, hear, heard}
 use Rattle.owner.specs.Owner.{owner_refusal, any_entered, asking_refusal, decide_next, decide_start_over, decide_drop, decide_enter, decide_exit}
 use Rattle.timers.specs.Timers.{decide_timer, decide_error}
 use Rattle.laptop_laws.specs.Effects.{effect_of as laptop_effect_of}
 use Rattle.laptop_laws.specs.Effects.{decided}
 use Rattle.port.specs.Calls.{is_waiting, owners_refusal, waiting_side}
-use Rattle.port.specs.Sides.{is_others, seen, stepped_on}
+use Rattle.port.specs.Sides.{Wait, is_others, seen, stepped_on}
 use Rattle.port.specs.declared.Port.{Port}
 use Rattle.port.specs.declared.Side.{Side}
 use Rattle.port.specs.declared.Side.TheVariants.{Partner}
-use Rattle.port.specs.declared.Wait.{Wait}
-use Rattle.port.specs.declared.Wait.TheVariants.{Nothing}
 use Rattle.port_laws.specs.Effects.{Call, message, next, start_over, drop, enter, exit, timer, protocol_error, one_sided, concerns, is_owners, Effect, effect_of, decided_on, waiters_effect, on_side}
 use Rattle.port_laws.proofs.Sides.{waits_seen, nothing_seen}
 
 -- a message to a laptop that awaits nothing leaves it awaiting nothing
-module _ (l : Laptop) (m : Memory) (idle : l.wait ≡ LaptopNothing) where
-  request_idle : (x : Message) → (hear_request l x.head (length x.objects) (get_or x.objects 0 0)).laptop.wait ≡ LaptopNothing
+module _ (l : Laptop) (m : Memory) (idle : l.wait ≡ None) where
+  request_idle : (x : Message) → (hear_request l x.head (length x.objects) (get_or x.objects 0 0)).laptop.wait ≡ None
   unfolding hear_request
   request_idle x = go (eqb x.head.command attention_command)
     where
       go : (t : Bool) →
           (cond t (accepted_with (Attention (notice_of x.head (length x.objects) (get_or x.objects 0 0))) l) (refused_by 6 l)).laptop.wait ≡
-          LaptopNothing
+          None
       go true = idle
       go false = idle
 
-  unawaited_idle : (x : Message) → (hear_unawaited l x.head).laptop.wait ≡ LaptopNothing
+  unawaited_idle : (x : Message) → (hear_unawaited l x.head).laptop.wait ≡ None
   unfolding hear_unawaited
   unawaited_idle x = go (is_late_page l x.head)
     where
-      go : (t : Bool) → (cond t (refused_by 6 (dropped l)) (refused_by 6 l)).laptop.wait ≡ LaptopNothing
+      go : (t : Bool) → (cond t (refused_by 6 (dropped l)) (refused_by 6 l)).laptop.wait ≡ None
       go true = refl
       go false = idle
 
-  hear_idle : (o : Outcome) → (hear l m o).step.laptop.wait ≡ LaptopNothing
+  hear_idle : (o : Outcome) → (hear l m o).step.laptop.wait ≡ None
   unfolding hear
   hear_idle (refused number) = idle
-  hear_idle (accepted at x) = go (eqb x.head.kind req) (fits l.wait x.head) (ap (λ (w : LaptopWait). fits w x.head) idle)
+  hear_idle (accepted at x) = go (eqb x.head.kind req) (fits l.wait x.head) (ap (λ (w : Option Request). fits w x.head) idle)
     where
       go : (a b : Bool) → b ≡ false →
           (cond a (only m (hear_request l x.head (length x.objects) (get_or x.objects 0 0)))
-          (cond b (hear_answer l m at x) (only m (hear_unawaited l x.head)))).step.laptop.wait ≡ LaptopNothing
+          (cond b (hear_answer l m at x) (only m (hear_unawaited l x.head)))).step.laptop.wait ≡ None
       go true b e = request_idle x
       go false true e = absurd (false≢true (sym e))
       go false false e = unawaited_idle x
 
-  pub message_idle : (o : Outcome) → (heard l m o).step.laptop.wait ≡ LaptopNothing
+  pub message_idle : (o : Outcome) → (heard l m o).step.laptop.wait ≡ None
   unfolding heard
   message_idle o = go (short_runs (length m.run) (length m.held_run))
     where
-      go : (t : Bool) → (cond t (only m (refused_by 11 l)) (hear l m o)).step.laptop.wait ≡ LaptopNothing
+      go : (t : Bool) → (cond t (only m (refused_by 11 l)) (hear l m o)).step.laptop.wait ≡ None
       go true = idle
       go false = hear_idle o
 
@@ -136,15 +134,15 @@ module _ (side : Side) (p : Port) (m : Memory) (out : List ℕ) where
 abbrev pub refused_nine : Port → Memory → List ℕ → Effect
 refused_nine p m out = record { step = stepped_on Partner p (refused_by 9 (seen Partner p)); after = m; buffer = out }
 
-module _ (p : Port) (idle : p.wait ≡ Nothing) (m : Memory) (out : List ℕ) where
+module _ (p : Port) (idle : p.wait ≡ None) (m : Memory) (out : List ℕ) where
   pub timer_nine : (first last : ℕ) → waiters_effect p m out (λ l. decide_timer first last l l.wait) ≡ refused_nine p m out
   unfolding decide_timer step_of buffer_of
   timer_nine first last =
       ap (λ (w : Wait). decided_on (waiting_side w) p m out (decide_timer first last (seen (waiting_side w) p) (seen (waiting_side w) p).wait)) idle ∙
-      ap (λ (w : LaptopWait). decided_on Partner p m out (decide_timer first last (seen Partner p) w)) (nothing_seen Partner p idle)
+      ap (λ (w : Option Request). decided_on Partner p m out (decide_timer first last (seen Partner p) w)) (nothing_seen Partner p idle)
 
   pub error_nine : waiters_effect p m out (λ l. decide_error l l.wait) ≡ refused_nine p m out
   unfolding decide_error step_of buffer_of
   error_nine =
       ap (λ (w : Wait). decided_on (waiting_side w) p m out (decide_error (seen (waiting_side w) p) (seen (waiting_side w) p).wait)) idle ∙
-      ap (λ (w : LaptopWait). decided_on Partner p m out (decide_error (seen Partner p) w)) (nothing_seen Partner p idle)
+      ap (λ (w : Option Request). decided_on Partner p m out (decide_error (seen Partner p) w)) (nothing_seen Partner p idle)

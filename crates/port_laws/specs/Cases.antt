@@ -1,14 +1,11 @@
 -- Histories of both sides, with what each call gives: 02's sentences on R-4 and R-5, run on the definitions.
-use Rattle.std.specs.Prelude.{ℕ, ◌+◌, List, [], ◌∷◌, take, replicate}
+use Rattle.std.specs.Prelude.{ℕ, ◌+◌, List, [], ◌∷◌, take, replicate, Option, Some, None}
 use Rattle.messages.specs.Layout.{bytes_of, objects_of}
 use Rattle.laptop.specs.State.{Memory, memory}
-use Rattle.laptop.specs.declared.Held.{Held}
-use Rattle.laptop.specs.declared.Held.TheVariants.{Catalogue as HeldAsCatalogue}
-use Rattle.laptop.specs.declared.Held.TheVariants.{Nothing as HeldNothing}
+use Rattle.laptop.specs.declared.Size.{Size}
 use Rattle.port.specs.Sides.{own_of, fresh_port}
 use Rattle.port.specs.declared.Side.{Side}
 use Rattle.port.specs.declared.Side.TheVariants.{Partner, Cable}
-use Rattle.port.specs.declared.Wait.TheVariants.{Nothing}
 use Rattle.port_laws.specs.Effects.{Call, message, next, start_over, drop, enter, exit, timer, protocol_error, concerns, Effect, Kept, effect_in, kept_by_of}
 
 -- a fresh port, each side lent runs of so many words
@@ -29,13 +26,13 @@ says side objects = message side (bytes_of objects)
 
 -- a line of the watcher: the refusal; of the side whose line it is, the partner for a timer, the page count, and 1 more than the SVIDs held, 0 for nothing;
 -- and the objects sent
-abbrev pub held_seen : Held → ℕ
-held_seen HeldNothing = 0
-held_seen (HeldAsCatalogue size) = size.count + 1
+abbrev pub held_seen : Option Size → ℕ
+held_seen None = 0
+held_seen (Some size) = size.count + 1
 
 abbrev pub line_of : Call → Effect → List ℕ
 line_of c e =
-    e.step.refusal ∷ (own_of (concerns c Nothing) e.step.port).pages ∷ held_seen (own_of (concerns c Nothing) e.step.port).held ∷
+    e.step.refusal ∷ (own_of (concerns c None) e.step.port).pages ∷ held_seen (own_of (concerns c None) e.step.port).held ∷
     objects_of (take e.step.length e.buffer)
 
 unfoldable pub lines_from : List Call → Kept → List (List ℕ)

@@ -20,7 +20,7 @@ use Rattle.laptop.specs.Calls.{sends as laptop_sends}
 use Rattle.owner.specs.Owner.{any_entered, request_message, asks_next}
 use Rattle.laptop.specs.State.{Memory}
 use Rattle.laptop.specs.declared.Laptop.{Laptop}
-use Rattle.laptop.specs.declared.Wait.TheVariants.{Nothing}
+use Rattle.std.specs.Prelude.{None}
 use Rattle.laptop_laws.specs.Effects.{next}
 use Rattle.laptop_laws.specs.Holding.{Holding, holding}
 use Rattle.link.specs.Demand.{Meets, whole, held_in, held_words, Holds}
@@ -118,7 +118,7 @@ module _ (modes_of : ℕ → List ℕ) (start : System) (meets : Meets modes_of 
         (tells_after modes_of start meets old (exchange out) s clean.reached_so got clean.tells_so)
 
     -- one answer less is needed
-    pub goes_on : result.step.laptop.wait ≡ Nothing → result.after.entered ≡ m.entered → holding result.step.laptop result.after ≡ holding l m →
+    pub goes_on : result.step.laptop.wait ≡ None → result.after.entered ≡ m.entered → holding result.step.laptop result.after ≡ holding l m →
         Stage modes_of d meets old base h out room result.step.laptop page_there →
         (Tells modes_of d meets result.step.laptop got_then → (needed modes_of d got_then + 1 ≡ needed modes_of d got) × (0 < needed modes_of d got_then)) →
         Advance s got

@@ -21,7 +21,7 @@ use Rattle.laptop.specs.State.{identity_request, identity_asked, awaiting}
 use Rattle.laptop.specs.declared.Candidate.{Candidate}
 use Rattle.laptop.specs.declared.Candidate.TheVariants.{Absent, Open, Done}
 use Rattle.laptop.specs.declared.Laptop.{Laptop}
-use Rattle.laptop.specs.declared.Wait.TheVariants.{Nothing, Answer}
+use Rattle.std.specs.Prelude.{Some, None}
 use Rattle.laptop_laws.specs.Effects.{next}
 use Rattle.laptop_laws.specs.WellFormed.{Listed, CandidateFits}
 use Rattle.link.specs.Demand.{Meets, Begins, held_words}
@@ -41,7 +41,7 @@ use Rattle.progress.proofs.Stages.{asks_svids, asks_modes}
 use Rattle.progress.proofs.Tells.{Tells, none_came, all_came, pages_come, modes_come, open_left, open_needed, none_left, modes_left_list}
 
 module _ (modes_of : ℕ → List ℕ) (start : System) (meets : Meets modes_of start.dock) (out : List ℕ) (room : 28 ≤ length out) (s : System)
-    (r : Reached modes_of start.dock (held_words start) s) (idle : s.laptop.wait ≡ Nothing) (unentered : any_entered s.memory.entered ≡ false)
+    (r : Reached modes_of start.dock (held_words start) s) (idle : s.laptop.wait ≡ None) (unentered : any_entered s.memory.entered ≡ false)
     (got : List Message) where
   abbrev d : Dock
   d = start.dock
@@ -51,7 +51,7 @@ module _ (modes_of : ℕ → List ℕ) (start : System) (meets : Meets modes_of 
 
   -- a request that next sends is awaited
   awaited : (q : Request) (asking : Laptop) → asks_next s.laptop s.memory.svids s.laptop.candidate ≡ sends (request_message q) asking →
-      asking.wait ≡ Answer q → well_shaped (request_message q) ≡ true → after.laptop.wait ≡ Answer q
+      asking.wait ≡ Some q → well_shaped (request_message q) ≡ true → after.laptop.wait ≡ Some q
   awaited q asking e w good =
       let at : s ≡ standing modes_of d s.highest out room r.edition_at s.laptop s.memory s.way s.fate r.page_at r.standing_at s.lost =
       ap (λ (x : Dock). record { laptop = s.laptop; memory = s.memory; way = s.way; fate = s.fate; dock = x; highest = s.highest; lost = s.lost }) (ap (λ (x : System). x.dock) r.is) in
@@ -60,10 +60,10 @@ module _ (modes_of : ℕ → List ℕ) (start : System) (meets : Meets modes_of 
       (next_sends modes_of d s.highest out room r.edition_at s.laptop s.memory s.way s.fate r.page_at r.standing_at s.lost r.invariant.formed.lent idle unentered q asking e
       (ap is_awaiting w) good) ∙ w
 
-  identity_next : s.laptop.candidate ≡ Absent → after.laptop.wait ≡ Answer identity_request
+  identity_next : s.laptop.candidate ≡ Absent → after.laptop.wait ≡ Some identity_request
   identity_next a = awaited identity_request (identity_asked s.laptop) (asks_identity s.laptop s.memory.svids a) refl identity_shaped
 
-  svids_next : s.laptop.candidate ≡ Open → after.laptop.wait ≡ Answer (discover pd_sid svids_command)
+  svids_next : s.laptop.candidate ≡ Open → after.laptop.wait ≡ Some (discover pd_sid svids_command)
   svids_next a =
       awaited (discover pd_sid svids_command) (awaiting (discover pd_sid svids_command) s.laptop) (asks_svids s.laptop s.memory.svids a) refl svids_request_shaped
 
@@ -88,7 +88,7 @@ module _ (modes_of : ℕ → List ℕ) (start : System) (meets : Meets modes_of 
         asked =
             awaited (discover (get_or s.memory.svids s.laptop.stored 0) modes_command) (awaiting (discover (get_or s.memory.svids s.laptop.stored 0) modes_command) s.laptop)
             (asks_modes s.laptop s.memory.svids a) refl good ∙
-            ap (λ (n : ℕ). Answer (discover n modes_command)) named;
+            ap (λ (n : ℕ). Some (discover n modes_command)) named;
         not_come = come.modes_came s.laptop.stored h ∙ le-ltb s.laptop.stored s.laptop.stored (omega arith);
       }
 
@@ -123,7 +123,7 @@ module _ (modes_of : ℕ → List ℕ) (start : System) (meets : Meets modes_of 
       begun (inr e) = omega (arith, still_needed modes_of d meets (length (listed d) / 12 + 1) s.laptop.stored got come some)
 
 pub asks_for_what_is_needed : (modes_of : ℕ → List ℕ) (start : System) → Meets modes_of start.dock → Begins start → (events : List Event) (out : List ℕ) → 28 ≤ length out →
-    (run modes_of events start).laptop.wait ≡ Nothing → any_entered (run modes_of events start).memory.entered ≡ false →
+    (run modes_of events start).laptop.wait ≡ None → any_entered (run modes_of events start).memory.entered ≡ false →
     NextAsks modes_of start.dock (run modes_of events start) (received modes_of events start []) out
 asks_for_what_is_needed modes_of start meets begins events out room idle unentered =
     asks_so modes_of start meets out room (run modes_of events start) (there modes_of start meets begins events) idle unentered (received modes_of events start [])

@@ -20,7 +20,7 @@ use Rattle.owner.specs.Owner.{any_entered, request_message}
 use Rattle.laptop.specs.State.{Memory}
 use Rattle.laptop.specs.declared.Candidate.TheVariants.{Open, Done}
 use Rattle.laptop.specs.declared.Laptop.{Laptop}
-use Rattle.laptop.specs.declared.Wait.TheVariants.{Nothing}
+use Rattle.std.specs.Prelude.{None}
 use Rattle.laptop_laws.specs.Holding.{Holding, holding}
 use Rattle.link.specs.Demand.{Meets, held_words}
 use Rattle.link.specs.Joined.{Way, clear, request, Fate, gone, coming, confirmed, came, System, reach, answer, arrive, sent}
@@ -52,7 +52,7 @@ module _ (modes_of : ℕ → List ℕ) (d : Dock) (meets : Meets modes_of d) (ol
   pub record Clean (e : Edition) (l : Laptop) (m : Memory) (way : Way) (page : ℕ) (got : List Message) : Type 0 where
     pub reached_so : Reached modes_of d old (rested e l m way page)
     pub tells_so : Tells modes_of d meets l got
-    pub idle : l.wait ≡ Nothing
+    pub idle : l.wait ≡ None
     pub unentered : any_entered m.entered ≡ false
     pub stage : Stage l page
     pub holds_base : holding l m ≡ base

@@ -28,7 +28,7 @@ use Rattle.laptop.specs.Calls.{step_of as laptop_step_of}
 use Rattle.owner.specs.Owner.{owner_refusal, any_entered, asking_refusal, discover, request_message, asks_next, decide_next}
 use Rattle.laptop.specs.State.{Memory, identity_request}
 use Rattle.laptop.specs.declared.Laptop.{Laptop}
-use Rattle.laptop.specs.declared.Wait.TheVariants.{Nothing}
+use Rattle.std.specs.Prelude.{None}
 use Rattle.laptop_laws.specs.Effects.{message, next, decided, effect_of}
 use Rattle.laptop_laws.specs.Holding.{Holding}
 use Rattle.laptop_laws.specs.WellFormed.{Lent}
@@ -56,7 +56,7 @@ module _ (modes_of : ℕ → List ℕ) (d : Dock) (h : Edition) (out : List ℕ)
   answered_at at = lower (lower at h) ours
 
   -- next sends what comes next
-  module _ (e : Edition) (l : Laptop) (m : Memory) (way : Way) (fate : Fate) (q : ℕ) (t : Standing) (z : ℕ) (lent : Lent m) (idle : l.wait ≡ Nothing)
+  module _ (e : Edition) (l : Laptop) (m : Memory) (way : Way) (fate : Fate) (q : ℕ) (t : Standing) (z : ℕ) (lent : Lent m) (idle : l.wait ≡ None)
       (unentered : any_entered m.entered ≡ false) where
     not_refused : asking_refusal l m.entered (length m.run) (length m.held_run) ≡ 0
     unfolding asking_refusal owner_refusal

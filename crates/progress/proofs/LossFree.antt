@@ -23,7 +23,7 @@ use Rattle.laptop.specs.State.{Memory, memory, opened, identity_request, identit
 use Rattle.laptop.specs.declared.Candidate.TheVariants.{Absent}
 use Rattle.laptop.specs.declared.Laptop.{Laptop}
 use Rattle.laptop.specs.declared.Told.TheVariants.{Nothing as ToldNothing}
-use Rattle.laptop.specs.declared.Wait.TheVariants.{Nothing}
+use Rattle.std.specs.Prelude.{None}
 use Rattle.laptop_laws.specs.Effects.{next}
 use Rattle.laptop_laws.specs.Holding.{Holding, holding}
 use Rattle.laptop_laws.specs.WellFormed.{Lent}
@@ -93,7 +93,7 @@ module _ (modes_of : ℕ → List ℕ) (start : System) (meets : Meets modes_of 
       (advances modes_of start meets all old base h out room e l m way page got clean)
 
   -- the first exchange: Identity is out, and nothing that is confirmed has still to arrive
-  module _ (e : Edition) (l : Laptop) (m : Memory) (way : Way) (fate : Fate) (q : ℕ) (t : Standing) (z : ℕ) (lent : Lent m) (idle : l.wait ≡ Nothing)
+  module _ (e : Edition) (l : Laptop) (m : Memory) (way : Way) (fate : Fate) (q : ℕ) (t : Standing) (z : ℕ) (lent : Lent m) (idle : l.wait ≡ None)
       (absent : l.candidate ≡ Absent) (unentered : any_entered m.entered ≡ false) (free : is_confirmed fate ≡ false) (holds_base : holding l m ≡ base)
       (reached_out : Reached modes_of d old (standing modes_of d h out room e (identity_asked l) m (request (message_bytes ours (request_message identity_request))) fate q t z)) where
     abbrev s : System

@@ -30,8 +30,7 @@ use Rattle.laptop.specs.declared.Candidate.TheVariants.{Absent, Open, Done}
 use Rattle.laptop.specs.declared.Laptop.{Laptop}
 use Rattle.laptop.specs.declared.Told.{Told}
 use Rattle.laptop.specs.declared.Told.TheVariants.{Nothing as ToldNothing}
-use Rattle.laptop.specs.declared.Wait.{Wait}
-use Rattle.laptop.specs.declared.Wait.TheVariants.{Nothing, Answer}
+use Rattle.std.specs.Prelude.{Option, Some, None}
 use Rattle.laptop_laws.specs.WellFormed.{Listed, CandidateFits, WaitFits, awaits_identity, WellFormed}
 use Rattle.link.specs.Demand.{Meets}
 use Rattle.link.specs.Needed.{identity_answer, empty_answer, modes_answer, list_answers, missing, needed, is_page_answer, pages_in, is_listing, is_too_many, is_answer, is_late, in_all_of}
@@ -57,9 +56,9 @@ is_late_lem : (l : Laptop) (h : Head) → is_awaiting l.wait ≡ false → l.can
 unfolding is_late_page
 is_late_lem l h idle open_now is_page = rw (rests l.wait idle, open_now, is_page)
   where
-    rests : (w : Wait) → is_awaiting w ≡ false → is_idle w ≡ true
-    rests Nothing e = refl
-    rests (Answer r) e = absurd (false≢true (sym e))
+    rests : (w : Option Request) → is_awaiting w ≡ false → is_idle w ≡ true
+    rests None e = refl
+    rests (Some r) e = absurd (false≢true (sym e))
 
 module _ (modes_of : ℕ → List ℕ) (d : Dock) (meets : Meets modes_of d) (l : Laptop) (m : Memory) (q : ℕ) (t : Standing) (z : ℕ) (v : Carried)
     (formed : WellFormed l m) (candidate : CandidateIs modes_of d l.candidate l.gathered l.stored l.pages m t q v z) (got : List Message)
@@ -75,7 +74,7 @@ module _ (modes_of : ℕ → List ℕ) (d : Dock) (meets : Meets modes_of d) (l 
 
   -- Identity
   module _ (shaped : Shaped modes_of d identity_ack) (gave : Gave modes_of d identity_ack q) (arrival : Arrival (listed d) t q z identity_ack v)
-      (waits : l.wait ≡ Answer identity_request) where
+      (waits : l.wait ≡ Some identity_request) where
     identity_left : needed modes_of d (identity_answer d ∷ []) + 1 ≡ needed modes_of d []
     identity_left = go (empty_or_some modes_of d meets list)
       where
@@ -90,7 +89,7 @@ module _ (modes_of : ℕ → List ℕ) (d : Dock) (meets : Meets modes_of d) (l 
 
     identity_first : got ≡ [] → ComesWith identity_ack
     identity_first e =
-        let awaited : is_answer l.wait (identity_answer d) ≡ true = is_answer_lem l.wait (identity_answer d) (ap (λ (w : Wait). fits w (identity_answer d).head) waits) refl refl in
+        let awaited : is_answer l.wait (identity_answer d) ≡ true = is_answer_lem l.wait (identity_answer d) (ap (λ (w : Option Request). fits w (identity_answer d).head) waits) refl refl in
         let few : is_too_many list (identity_answer d ∷ got) ≡ false =
         few_enough list (identity_answer d ∷ got) (omega (arith, ap pages_in e)) in
         let last = identity_last modes_of d meets l m q t z v formed candidate shaped gave arrival waits in
@@ -116,7 +115,7 @@ module _ (modes_of : ℕ → List ℕ) (d : Dock) (meets : Meets modes_of d) (l 
 
   -- the modes of an SVID
   module _ (svid : ℕ) (shaped : Shaped modes_of d (modes_ack svid)) (gave : Gave modes_of d (modes_ack svid) q)
-      (arrival : Arrival (listed d) t q z (modes_ack svid) v) (waits : l.wait ≡ Answer (discover svid modes_command)) where
+      (arrival : Arrival (listed d) t q z (modes_ack svid) v) (waits : l.wait ≡ Some (discover svid modes_command)) where
     abbrev words : Message
     words = message_of modes_of d (modes_ack svid)
 
@@ -144,10 +143,10 @@ module _ (modes_of : ℕ → List ℕ) (d : Dock) (meets : Meets modes_of d) (l 
         let listless : missing (list_answers list) (words ∷ got) ≡ 0 = modes_left_list modes_of d meets (l.stored + 1) (words ∷ got) some now in
         let few : is_too_many list (words ∷ got) ≡ false = done_enough list (words ∷ got) (list_done list (words ∷ got) listless) in
         let awaited : is_answer l.wait words ≡ true =
-        is_answer_lem l.wait words (ap (λ (w : Wait). fits w words.head) waits ∙ same) refl refl in
+        is_answer_lem l.wait words (ap (λ (w : Option Request). fits w words.head) waits ∙ same) refl refl in
         go (ltb (l.stored + 1) l.gathered.count) refl now left before listless few awaited
       where
-        same : fits (Answer (discover svid modes_command)) words.head ≡ true
+        same : fits (Some (discover svid modes_command)) words.head ≡ true
         same = rw (eq-eqb svid svid refl)
 
         go : (b : Bool) → ltb (l.stored + 1) l.gathered.count ≡ b → Come modes_of d meets pages_in_all (l.stored + 1) (words ∷ got) →
@@ -179,7 +178,7 @@ module _ (modes_of : ℕ → List ℕ) (d : Dock) (meets : Meets modes_of d) (l 
 
   -- NAK to SVIDs of an empty list
   module _ (shaped : Shaped modes_of d list_nak) (gave : Gave modes_of d list_nak q) (arrival : Arrival (listed d) t q z list_nak v)
-      (waits : l.wait ≡ Answer (discover pd_sid svids_command)) where
+      (waits : l.wait ≡ Some (discover pd_sid svids_command)) where
     empty_open : l.candidate ≡ Open
     empty_open = nak_open modes_of d meets l m q t z v formed candidate shaped gave arrival waits
 
@@ -188,7 +187,7 @@ module _ (modes_of : ℕ → List ℕ) (d : Dock) (meets : Meets modes_of d) (l 
         let last : is_last_head l empty_answer.head ≡ true = nak_last modes_of d meets l m q t z v formed candidate shaped gave arrival waits in
         let none = nak_comes modes_of d meets p 0 got come gave in
         let few : is_too_many list (empty_answer ∷ got) ≡ false = done_enough list (empty_answer ∷ got) (list_done list (empty_answer ∷ got) none.1) in
-        let awaited : is_answer l.wait empty_answer ≡ true = is_answer_lem l.wait empty_answer (ap (λ (w : Wait). fits w empty_answer.head) waits) refl refl in
+        let awaited : is_answer l.wait empty_answer ≡ true = is_answer_lem l.wait empty_answer (ap (λ (w : Option Request). fits w empty_answer.head) waits) refl refl in
         let empty : l.gathered.count ≡ 0 = omega (arith, count, most, ap length gave) in
         subst (Comes modes_of d meets l empty_answer got) (sym (svids_nak l m at empty_open empty))
         (comes_new modes_of d meets l empty_answer got _ (is_new_lem l.wait list empty_answer got awaited refl few) (added l.wait list empty_answer got awaited few)
@@ -216,7 +215,7 @@ module _ (modes_of : ℕ → List ℕ) (d : Dock) (meets : Meets modes_of d) (l 
 
   -- Enter and Exit
   mode_arrives : (r : Request) (shaped : Shaped modes_of d (mode_ack r)) (gave : Gave modes_of d (mode_ack r) q) (arrival : Arrival (listed d) t q z (mode_ack r) v) →
-      l.wait ≡ Answer r → Tells modes_of d meets l got → ComesWith (mode_ack r)
+      l.wait ≡ Some r → Tells modes_of d meets l got → ComesWith (mode_ack r)
   mode_arrives r shaped gave arrival waits tells =
       subst (Comes modes_of d meets l (reply r ack []) got) (sym (mode_marked l m at r gave))
       (left_alone (reply r ack []) _ (no_answer_mode l.wait (reply r ack []) (lt-leb r.command 3 (omega (arith, gave))))
@@ -225,7 +224,7 @@ module _ (modes_of : ℕ → List ℕ) (d : Dock) (meets : Meets modes_of d) (l 
 
   -- BUSY
   module _ (r : Request) (shaped : Shaped modes_of d (busy_to r)) (gave : Gave modes_of d (busy_to r) q) (arrival : Arrival (listed d) t q z (busy_to r) v)
-      (waits : l.wait ≡ Answer r) (tells : Tells modes_of d meets l got) where
+      (waits : l.wait ≡ Some r) (tells : Tells modes_of d meets l got) where
     busy_comes : (told : Told) (after : Laptop) → Tells modes_of d meets after got →
         Comes modes_of d meets l (reply r busy []) got (only m (accepted_with told after))
     busy_comes told after tells_then =
@@ -236,7 +235,7 @@ module _ (modes_of : ℕ → List ℕ) (d : Dock) (meets : Meets modes_of d) (l 
     busy_arrives : ComesWith (busy_to r)
     busy_arrives = go (awaits l m formed r waits)
       where
-        go : WaitFits (Answer r) l.candidate l.pages l.stored m.svids → ComesWith (busy_to r)
+        go : WaitFits (Some r) l.candidate l.pages l.stored m.svids → ComesWith (busy_to r)
         go (inl f) =
             subst (Comes modes_of d meets l (reply r busy []) got)
             (sym (ap (λ (x : Request). hear_answer l m at (reply x busy [])) f.0 ∙ identity_busy l m at))
@@ -257,7 +256,7 @@ module _ (modes_of : ℕ → List ℕ) (d : Dock) (meets : Meets modes_of d) (l 
 
   -- all of them
   answer_arrives : (a : FairAnswer) (shaped : Shaped modes_of d a) (gave : Gave modes_of d a q) (arrival : Arrival (listed d) t q z a v) →
-      l.wait ≡ Answer (request_of (message_of modes_of d a).head) → Tells modes_of d meets l got → ComesWith a
+      l.wait ≡ Some (request_of (message_of modes_of d a).head) → Tells modes_of d meets l got → ComesWith a
   answer_arrives identity_ack shaped gave arrival waits tells = identity_arrives shaped gave arrival waits tells
   answer_arrives (page_ack p) shaped gave arrival waits tells =
       page_arrives modes_of d meets l m q t z v formed candidate p shaped gave arrival waits got at tells
@@ -280,9 +279,9 @@ module _ (modes_of : ℕ → List ℕ) (d : Dock) (meets : Meets modes_of d) (l 
       (dropped_late l.wait list x got unawaited (late_page l.wait list x got (idle l.wait (and_left (is_idle l.wait) _ late)) is_page still))
       (last_unfit l x.head unfit) (inl late) (none_came refl refl)
     where
-      idle : (w : Wait) → is_idle w ≡ true → is_awaiting w ≡ false
-      idle Nothing e = refl
-      idle (Answer r) e = absurd (false≢true e)
+      idle : (w : Option Request) → is_idle w ≡ true → is_awaiting w ≡ false
+      idle None e = refl
+      idle (Some r) e = absurd (false≢true e)
 
       listing : is_open l.candidate ≡ true → Tells modes_of d meets l got → 0 < missing (list_answers list) got
       listing o (none_came e a) = absurd (false≢true (sym (ap is_open a) ∙ o))

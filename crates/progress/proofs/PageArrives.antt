@@ -26,7 +26,7 @@ use Rattle.owner.specs.Owner.{discover}
 use Rattle.laptop.specs.State.{is_open, Memory, gathered_list}
 use Rattle.laptop.specs.declared.Candidate.TheVariants.{Open}
 use Rattle.laptop.specs.declared.Laptop.{Laptop}
-use Rattle.laptop.specs.declared.Wait.TheVariants.{Answer}
+use Rattle.std.specs.Prelude.{Some}
 use Rattle.laptop_laws.specs.WellFormed.{WellFormed}
 use Rattle.link.specs.Demand.{Meets}
 use Rattle.link.specs.Needed.{page_answer, list_answers, has_come, missing, needed, pages_in, is_listing, is_too_many, is_answer}
@@ -44,7 +44,7 @@ use Rattle.progress.proofs.Tells.{Tells, none_came, all_came, pages_come, modes_
 module _ (modes_of : ℕ → List ℕ) (d : Dock) (meets : Meets modes_of d) (l : Laptop) (m : Memory) (q : ℕ) (t : Standing) (z : ℕ) (v : Carried)
     (formed : WellFormed l m) (candidate : CandidateIs modes_of d l.candidate l.gathered l.stored l.pages m t q v z) (p : ℕ)
     (shaped : Shaped modes_of d (page_ack p)) (gave : Gave modes_of d (page_ack p) q) (arrival : Arrival (listed d) t q z (page_ack p) v)
-    (waits : l.wait ≡ Answer (discover pd_sid svids_command)) (got : List Message) (at : Edition) where
+    (waits : l.wait ≡ Some (discover pd_sid svids_command)) (got : List Message) (at : Edition) where
   abbrev answer : Message
   answer = message_of modes_of d (page_ack p)
 

@@ -8,7 +8,8 @@ use borrow.Author.Tests.{le-leb, lt-leb, lt-ltb}
 use Rattle.messages.specs.Layout.{busy, Message}
 use Rattle.hearing.specs.Hearing.{fits}
 use Rattle.laptop.specs.Calls.{is_awaiting}
-use Rattle.laptop.specs.declared.Wait.{Wait}
+use Rattle.std.specs.Prelude.{Option}
+use Rattle.messages.specs.declared.request.Request.{Request}
 use Rattle.unharmed.proofs.Awaited.{and_no}
 use Rattle.link.specs.Needed.{list_answers, has_come, missing, is_page_answer, pages_in, is_listing, is_too_many, is_answer, is_late, with_answer, with_taken, is_new}
 
@@ -33,7 +34,7 @@ module _ (list : List ℕ) (got : List Message) where
   unfolding is_too_many
   done_enough e = rw e (and_no (leb 200 (pages_in got)))
 
-module _ (w : Wait) (list : List ℕ) (m : Message) (got : List Message) where
+module _ (w : Option Request) (list : List ℕ) (m : Message) (got : List Message) where
   -- an answer of the gathering
   module _ (yes : is_answer w m ≡ true) where
     pub added : is_too_many list (m ∷ got) ≡ false → with_taken w list m got ≡ m ∷ got
@@ -70,7 +71,7 @@ module _ (w : Wait) (list : List ℕ) (m : Message) (got : List Message) where
     unfolding is_new
     not_new_other = rw no
 
-module _ (w : Wait) (m : Message) where
+module _ (w : Option Request) (m : Message) where
   pub is_answer_lem : fits w m.head ≡ true → leb m.head.command 3 ≡ true → eqb m.head.kind busy ≡ false → is_answer w m ≡ true
   unfolding is_answer
   is_answer_lem f c k = rw (f, c, k)
@@ -87,7 +88,7 @@ module _ (w : Wait) (m : Message) where
   unfolding is_answer
   no_answer_mode c = rw c (and_no (fits w m.head))
 
-module _ (w : Wait) (list : List ℕ) (m : Message) (got : List Message) where
+module _ (w : Option Request) (list : List ℕ) (m : Message) (got : List Message) where
   pub late_page : is_awaiting w ≡ false → is_page_answer m ≡ true → is_listing list got ≡ true → is_late w list m got ≡ true
   unfolding is_late
   late_page a b c = rw (a, b, c)

@@ -32,7 +32,7 @@ use Rattle.laptop.specs.State.{Memory, gathered_list, awaiting}
 use Rattle.laptop.specs.declared.Candidate.{Candidate}
 use Rattle.laptop.specs.declared.Candidate.TheVariants.{Open, Done}
 use Rattle.laptop.specs.declared.Laptop.{Laptop}
-use Rattle.laptop.specs.declared.Wait.TheVariants.{Answer}
+use Rattle.std.specs.Prelude.{Some}
 use Rattle.laptop_laws.specs.Holding.{Holding}
 use Rattle.laptop_laws.specs.WellFormed.{Listed, CandidateFits}
 use Rattle.link.specs.Demand.{Meets}
@@ -70,7 +70,7 @@ pub asks_modes : (l : Laptop) (svids : List ℕ) → l.candidate ≡ Done →
 unfolding asks_next
 asks_modes l svids e = rw e
 
-last_of : (l : Laptop) (svid : ℕ) → l.wait ≡ Answer (discover svid modes_command) → l.stored + 1 ≡ l.gathered.count →
+last_of : (l : Laptop) (svid : ℕ) → l.wait ≡ Some (discover svid modes_command) → l.stored + 1 ≡ l.gathered.count →
     is_last_head l (head_for (discover svid modes_command) ack) ≡ true
 unfolding is_last_head
 last_of l svid waits e = rw (waits, eq-eqb svid svid refl, eq-eqb (l.stored + 1) l.gathered.count e)
@@ -101,7 +101,7 @@ module _ (modes_of : ℕ → List ℕ) (start : System) (meets : Meets modes_of 
 
     -- what the laptop hears
     hears : (r : Request) (a : FairAnswer) (result : Result) → Shaped modes_of d a → eqb (message_of modes_of d a).head.kind 0 ≡ false →
-        fits (Answer r) (message_of modes_of d a).head ≡ true → hear_answer (awaiting r l) m now (message_of modes_of d a) ≡ result →
+        fits (Some r) (message_of modes_of d a).head ≡ true → hear_answer (awaiting r l) m now (message_of modes_of d a) ≡ result →
         heard (awaiting r l) m (read_outcome (message_bytes now (message_of modes_of d a))) ≡ result
     hears r a result shaped answers fit is =
         ap (heard (awaiting r l) m) (answer_read modes_of d meets now a shaped) ∙
@@ -229,7 +229,7 @@ module _ (modes_of : ℕ → List ℕ) (start : System) (meets : Meets modes_of 
       answer_shaped : well_shaped (modes_answer modes_of svid) ≡ true
       answer_shaped = subst (λ (s : ℕ). well_shaped (modes_answer modes_of s) ≡ true) named (modes_answer_shaped modes_of d meets all l.stored before_modes.1)
 
-      fits_answer : fits (Answer asked) (modes_answer modes_of svid).head ≡ true
+      fits_answer : fits (Some asked) (modes_answer modes_of svid).head ≡ true
       fits_answer = rw (eq-eqb svid svid refl)
 
       some_modes : 1 ≤ length (modes_of svid)

@@ -1,38 +1,20 @@
 -- Publishing: when, and which words of the run are copied.
 use mathlib.Core.Path.{◌≡◌, refl, ap, sym, ◌∙◌}
-use mathlib.Core.Bool.{Bool, true, false, cond, ◌&&◌}
+use mathlib.Core.Bool.{Bool, true, false, cond}
 use mathlib.Core.List.{List, [], ◌∷◌, ◌++◌}
 use Prim.Native.Nat.{ℕ, suc, ◌+◌, ◌*◌, ◌/◌, ◌%◌, ◌<◌, ◌≤◌}
 use native.Mathlib.Numerals.{add-one}
 use native.Mathlib.Omega.{arith}
-use lib.Dec.{leb, ltb}
+use lib.Dec.{ltb}
 use lib.ListN.{length, get_or, take, drop, set, take-append-drop, drop_of_length-le, get_or-eq_default}
 use lib.Seq.{drop-cons, set_at, set_out, length-take-le, append_snoc, take-append_seam, drop_at}
+use Rattle.std.proofs.lemmas.Bool.Decides.{nat_tests}
 use borrow.Author.Tests.{le-ltb, ltb-true, ltb-false}
-use Rattle.publishing.specs.Publishing.{is_done, is_whole, is_mode, copied, copied_to, with_laptop}
-use Rattle.laptop.specs.State.{published}
-use Rattle.laptop.specs.declared.Candidate.{Candidate}
-use Rattle.laptop.specs.declared.Candidate.TheVariants.{Absent, Open, Done}
-use Rattle.laptop.specs.declared.Laptop.{Laptop}
-use Rattle.laptop.specs.declared.Step.{Step}
+use Rattle.publishing.specs.Publishing.{is_mode, copied, copied_to}
 
 mode_past : (modes : List ℕ) (k : ℕ) → length modes ≤ k / 6 → is_mode modes k ≡ false
 unfolding is_mode
 mode_past modes k h = ap (λ (n : ℕ). ltb (k % 6) n) (get_or-eq_default modes 0 h) ∙ le-ltb (k % 6) 0 (omega arith)
-
-pub mode_at : (modes : List ℕ) (k n : ℕ) → n ≡ get_or modes (k / 6) 0 → ltb (k % 6) n ≡ is_mode modes k
-unfolding is_mode
-mode_at modes k n e = rw e
-
--- one word
-pub copy_mode : (modes run words : List ℕ) (k word : ℕ) → is_mode modes k ≡ true → word ≡ get_or run k 0 →
-    set words k word ≡ copied_to modes run k words
-unfolding copied_to
-copy_mode modes run words k word e same = rw e (ap (set words k) same)
-
-pub copy_none : (modes run words : List ℕ) (k : ℕ) → is_mode modes k ≡ false → words ≡ copied_to modes run k words
-unfolding copied_to
-copy_none modes run words k e = rw e
 
 pub copy_past : (modes run words : List ℕ) (k : ℕ) → length words ≤ k → words ≡ copied_to modes run k words
 unfolding copied_to
@@ -121,25 +103,5 @@ length_copied_to modes run words k = go (is_mode modes k)
     go true = lib.ListN.length-set words k (get_or run k 0)
     go false = refl
 
--- when the candidate is whole
-pub whole_not : (l : Laptop) → (l.candidate ≡ Done → ⊥) → false ≡ is_whole l
-unfolding is_whole
-whole_not l k = go l.candidate k
-  where
-    go : (s : Candidate) → (s ≡ Done → ⊥) → false ≡ (is_done s && leb l.gathered.count l.stored)
-    go Absent o = refl
-    go Open o = refl
-    go Done o = absurd (o refl)
-
-pub whole_done : (l : Laptop) → l.candidate ≡ Done → leb l.gathered.count l.stored ≡ is_whole l
-unfolding is_whole
-whole_done l e = rw e
-
--- what is published
-module _ (s : Step) (svids modes identity run held_run : List ℕ) where
-  pub publish_is : (l : Laptop) (first after : List ℕ) → l ≡ published s.laptop → first ≡ take s.laptop.gathered.count modes →
-      after ≡ copied first run 0 held_run →
-      (with_laptop l s ≡ with_laptop (published s.laptop) s) × (svids ≡ svids) × (modes ≡ modes) × (identity ≡ identity) ×
-      (after ≡ copied (take s.laptop.gathered.count modes) run 0 held_run)
-  publish_is l first after el ef ea =
-      (ap (λ (x : Laptop). with_laptop x s) el, refl, refl, refl, ea ∙ ap (λ (x : List ℕ). copied x run 0 held_run) ef)
+-- what `copy_word` needs
+pub ruleset copy_steps = (set_out, nat_tests)

@@ -6,7 +6,7 @@ use Rattle.laptop.specs.State.{published}
 use Rattle.laptop.specs.declared.Candidate.{Candidate}
 use Rattle.laptop.specs.declared.Candidate.TheVariants.{Absent, Open, Done}
 use Rattle.laptop.specs.declared.Laptop.{Laptop}
-use Rattle.laptop.specs.declared.Step.{Step}
+use Rattle.laptop.specs.Step.{Step}
 
 -- a candidate whose list is done and of which no modes are missing is published
 abbrev pub is_done : Candidate → Bool

@@ -23,7 +23,7 @@ use Rattle.catalogue_laws.specs.Within.{OneToSix, Within}
 use Rattle.catalogue_laws.proofs.Limits.{accepted_within}
 use Rattle.catalogue_laws.proofs.ReadWrite.{read_write}
 use Rattle.rebuilding.specs.Rebuilding.{Arrays, modes_into, rebuilt, accepted_as, read_as, read_into, CatalogueRead}
-use Rattle.rebuilding.specs.declared.Rebuilt.{Rebuilt}
+use Rattle.rebuilding.specs.Rebuilding.{Rebuilt}
 use Rattle.rebuilding.proofs.Filling.{modes_there}
 use Rattle.rebuilding.proofs.Putting.{each_at}
 

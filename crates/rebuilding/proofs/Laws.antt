@@ -12,7 +12,7 @@ use Rattle.judging.specs.Judging.{Judgement, judgement_of}
 use Rattle.catalogue_laws.proofs.Bounds.{bounds}
 use Rattle.catalogue_laws.proofs.Given.{only_these as file_only_these}
 use Rattle.rebuilding.specs.Rebuilding.{Arrays, rebuilt, short_run, refused_at, accepted_as, read_as, read_into, CatalogueRead, Small}
-use Rattle.rebuilding.specs.declared.Rebuilt.{Rebuilt}
+use Rattle.rebuilding.specs.Rebuilding.{Rebuilt}
 
 -- a result that the promise allows is the only one
 pub read_only : (bytes : List ℕ) (before : Arrays) (result result' : Rebuilt) (after after' : Arrays) →

@@ -14,7 +14,7 @@ use Rattle.laptop.specs.Catalogue.{Entry, Catalogue, run_words}
 use Rattle.catalogue.specs.Bytes.{end_kind, entries_bytes, catalogue_bytes}
 use Rattle.judging.specs.Judging.{Judgement, judgement_of, FileJudged}
 use Rattle.judging.specs.Walking.{walk_of}
-use Rattle.judging.specs.declared.Judged.{Judged}
+use Rattle.judging.specs.Judging.{Judged}
 use Rattle.judging.specs.declared.walk.Walk.{Walk}
 use Rattle.catalogue_laws.proofs.Judged.{number_is, walk_is}
 use Rattle.catalogue_laws.proofs.Limits.{accepted_within}
@@ -22,7 +22,7 @@ use Rattle.catalogue_laws.proofs.Reading.{objects_again}
 use Rattle.catalogue_laws.proofs.WriteRead.{write_read}
 use Rattle.rebuilding.specs.Putting.{Standing}
 use Rattle.rebuilding.specs.Rebuilding.{Arrays, modes_into, rebuilt, short_run, refused_at, read_as, read_into, CatalogueRead}
-use Rattle.rebuilding.specs.declared.Rebuilt.{Rebuilt}
+use Rattle.rebuilding.specs.Rebuilding.{Rebuilt}
 
 -- a catalogue's bytes, behind the kind of its identity and behind its objects
 behind_kind : (c : Catalogue) → drop 1 (catalogue_bytes c) ≡ bytes_of c.identity ++ (entries_bytes c.entries ++ end_kind ∷ [])

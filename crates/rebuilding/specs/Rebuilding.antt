@@ -7,7 +7,6 @@ use Rattle.pages.specs.Lists.{most_svids}
 use Rattle.catalogue.specs.Bytes.{most_objects, most_bytes}
 use Rattle.judging.specs.Judging.{Judgement, judgement_of, noted}
 use Rattle.judging.specs.Walking.{svids_of, numbers_of, all_modes}
-use Rattle.rebuilding.specs.declared.Rebuilt.{Rebuilt}
 
 -- six words of identity, 72 SVIDs, the number of modes of each, and a run of mode words
 pub record Arrays : Type 0 where
@@ -29,6 +28,14 @@ rebuilt c before = record {
   numbers = noted (numbers_of c.entries);
   run = modes_into before.run 0 c.entries;
 }
+
+-- the refusal number, and where the fault stands, or the end of the file; on acceptance how many identity objects, SVIDs and modes there are
+pub record Rebuilt : Type 0 where
+  pub refusal : ℕ
+  pub at : ℕ
+  pub extent : ℕ
+  pub count : ℕ
+  pub modes : ℕ
 
 -- a run under 432 words is refused 11 first; then the first fault of the file is named, with its offset. A refusal tells of no catalogue
 abbrev pub short_run : ℕ

@@ -8,53 +8,38 @@ ghost use Rattle.rebuilding.specs.Putting.{words_from, Standing};
 ghost use Rattle.rebuilding.specs.Rebuilding.{modes_into};
 
 use judging::Walk;
-use laptop::{MODES_EACH, number_at};
+use laptop::MODES_EACH;
 use reading::object_at;
 use records::{MODE_RECORD, OBJECT_BYTES, SVID_RECORD};
+use std::array;
 
 // Object i of an identity of so many objects, 0 past them.
 fn object_of(body: &[u8], extent: usize, i: usize) -> u32
     ensures { result ≡ get_or (take extent (objects_of body.now)) i 0 }
 {
-    if i < extent {
-        return object_at(body, i);
-    }
-    0
+    if i < extent { object_at(body, i) } else { 0 }
 }
 
-// The bytes behind the first, none where there is none.
-fn behind_first(bytes: &[u8]) -> &[u8]
-    ensures { result.now ≡ drop 1 bytes.now }
+// The bytes from an offset on, none where there are no more.
+fn behind(bytes: &[u8], at: usize) -> &[u8]
+    ensures { result.now ≡ drop at bytes.now }
 {
-    if 1 <= bytes.len() {
-        return &bytes[1..];
-    }
-    bytes
+    &bytes[at.min(bytes.len())..]
 }
 
 // The word at an offset, 0 where the bytes end before it does.
 fn word_at(bytes: &[u8], at: usize) -> u32
     ensures { result ≡ get_or (objects_of (drop at bytes.now)) 0 0 }
 {
-    if bytes.len() < at {
-        return 0;
-    }
-    object_at(&bytes[at..], 0)
+    object_at(behind(bytes, at), 0)
 }
 
 // An identity's objects stand behind its kind.
 pub(crate) fn objects_in(bytes: &[u8], extent: usize) -> [u32; 6]
     ensures { result ≡ padded (take extent (objects_of (drop 1 bytes.now))) }
 {
-    let body = behind_first(bytes);
-    [
-        object_of(body, extent, 0),
-        object_of(body, extent, 1),
-        object_of(body, extent, 2),
-        object_of(body, extent, 3),
-        object_of(body, extent, 4),
-        object_of(body, extent, 5),
-    ]
+    let body = behind(bytes, 1);
+    array::from_fn(|i| object_of(body, extent, i))
 }
 
 fn put_word(run: &mut [u32], place: usize, word: u32)
@@ -70,10 +55,8 @@ fn put_words(bytes: &[u8], at: usize, number: usize, run: &mut [u32], place: usi
     requires { (at < 1000000) × (number < 256) × (place < 1000) }
     ensures { run.new ≡ sets run.old place (words_from bytes.now at number) }
 {
-    let mut i = 0;
-    while i < number {
+    for i in 0..number {
         put_word(run, place + i, word_at(bytes, at + i * MODE_RECORD + 1));
-        i += 1;
     }
 }
 
@@ -84,12 +67,10 @@ pub(crate) fn put_modes(bytes: &[u8], walk: Walk, numbers: &[u8; 72], run: &mut 
         run.new ≡ modes_into run.old 0 entries }
 {
     let mut at = 1 + walk.extent * OBJECT_BYTES;
-    let mut i = 0;
-    while i < walk.count {
+    for i in 0..walk.count {
         let modes_at = at + SVID_RECORD;
-        let number = number_at(numbers, i) as usize;
+        let number = usize::from(numbers[i]);
         put_words(bytes, modes_at, number, run, i * MODES_EACH);
         at = modes_at + number * MODE_RECORD;
-        i += 1;
     }
 }

@@ -11,7 +11,7 @@ use Rattle.records.specs.Records.{is_identity, is_known, body_length, svid_in, m
 use Rattle.records.specs.declared.Record.{Record}
 use Rattle.records.specs.declared.Record.TheVariants.{Identity, Svid, Mode, End}
 use Rattle.records.proofs.Bodies.{known_identity, known_other, length_identity, of_identity}
-use Rattle.records.specs.declared.Found.TheVariants.{Whole, Unknown, Cut, Nothing}
+use Rattle.records.specs.Records.{Whole, Unknown, Cut, Nothing}
 
 pub in_nothing : (bytes : List ℕ) → length bytes ≡ 0 → found_in bytes ≡ Nothing
 unfolding found_in

@@ -10,7 +10,7 @@ use borrow.Author.Tests.{leb-true, eqb-true, eqb-false}
 use Rattle.catalogue.specs.Bytes.{svid_kind, mode_kind, end_kind}
 use Rattle.records.specs.Records.{is_identity, is_known, body_length, svid_in, mode_in, record_of, found_in}
 use Rattle.records.proofs.Bodies.{known_other, length_identity, length_svid, length_mode, length_other, of_identity, of_svid, of_mode, of_other}
-use Rattle.records.specs.declared.Found.TheVariants.{Whole, Unknown, Cut}
+use Rattle.records.specs.Records.{Whole, Unknown, Cut}
 use Rattle.records.specs.declared.Record.{Record}
 use Rattle.records.specs.declared.Record.TheVariants.{Identity, Svid, Mode, End}
 

@@ -5,7 +5,7 @@ use Prim.Native.Nat.{ℕ}
 use denote.Ref.{Bor}
 use Rattle.laws.proofs.Tight.{one_value}
 use Rattle.records.specs.Records.{found_at, found_number}
-use Rattle.records.specs.declared.Found.{Found}
+use Rattle.records.specs.Records.{Found}
 use Rattle.records.specs.declared.reader.Reader.{Reader}
 
 -- a reader that is made, or moved

@@ -2,8 +2,6 @@
 use Rattle.std.specs.Prelude.{ℕ, ◌+◌, ◌*◌, ◌^◌, Bool, cond, ◌&&◌, ◌||◌, List, [], ◌∷◌, leb, ltb, eqb, length, get_or, drop}
 use Rattle.messages.specs.Layout.{objects_of}
 use Rattle.catalogue.specs.Bytes.{svid_kind, mode_kind, end_kind, least_objects, most_objects}
-use Rattle.records.specs.declared.Found.{Found}
-use Rattle.records.specs.declared.Found.TheVariants.{Whole, Unknown, Cut, Nothing}
 use Rattle.records.specs.declared.Record.{Record}
 use Rattle.records.specs.declared.Record.TheVariants.{Identity, Svid, Mode, End}
 
@@ -30,6 +28,14 @@ mode_in body = get_or (objects_of body) 0 0
 unfoldable pub record_of : ℕ → List ℕ → Record
 record_of kind body =
     cond (is_identity kind) (Identity kind) (cond (eqb kind svid_kind) (Svid (svid_in body)) (cond (eqb kind mode_kind) (Mode (mode_in body)) End))
+
+-- what stands at a place among bytes: a whole record and the number of its bytes, the kind counted; a kind that there is not; a body that is cut; the end of
+-- the bytes
+pub data Found : Type 0 where
+  Whole : Record → ℕ → Found
+  Unknown : Found
+  Cut : Found
+  Nothing : Found
 
 -- what stands first among bytes: a whole record and the number of its bytes, an unknown kind, a cut body, or nothing
 unfoldable pub found_in : List ℕ → Found

@@ -25,7 +25,7 @@ use Rattle.catalogue_laws.proofs.Passing.{entries_append}
 use Rattle.catalogue_laws.proofs.ReadWrite.{sound_new}
 use Rattle.catalogue_laws.proofs.WriteRead.{write_read}
 use Rattle.stretches.specs.Stretches.{svid_size, place_in, entries_at, stretch_in}
-use Rattle.stretches.specs.declared.Place.{Place}
+use Rattle.stretches.specs.Stretches.{Place}
 use Rattle.stretches.proofs.Laws.{fault_first, sound_place}
 
 -- the modes behind an offset

@@ -4,7 +4,7 @@ use mathlib.Core.List.{List}
 use Prim.Native.Nat.{ℕ, ◌+◌, ◌*◌}
 use Rattle.judging.specs.Judging.{Judgement, judgement_of, FileJudged}
 use Rattle.judging.specs.Walking.{walk_of}
-use Rattle.judging.specs.declared.Judged.{Judged}
+use Rattle.judging.specs.Judging.{Judged}
 use Rattle.judging.specs.declared.walk.Walk.{Walk}
 use Rattle.catalogue_laws.proofs.Judged.{number_is, walk_is}
 use Rattle.stretches.proofs.Laws.{fault_first, sound_place}

@@ -14,7 +14,7 @@ use Rattle.judging.specs.Judging.{Judgement, judgement_of}
 use Rattle.judging.specs.Walking.{all_modes}
 use Rattle.catalogue_laws.proofs.Reach.{place_within, accepted_size}
 use Rattle.stretches.specs.Stretches.{refused_at, place_in, entries_at, stretch_in}
-use Rattle.stretches.specs.declared.Place.{Place}
+use Rattle.stretches.specs.Stretches.{Place}
 
 abbrev end : Place → ℕ
 end place = place.at + place.length

@@ -17,8 +17,8 @@ use Rattle.judging.specs.Judging.{Judgement, judgement_of}
 use Rattle.judging.specs.Walking.{svids_of}
 use Rattle.catalogue_laws.proofs.Given.{only_these as file_only_these}
 use Rattle.stretches.specs.Stretches.{not_listed, svid_size, refused_at, place_in, entries_at, stretch_in, Stretched}
-use Rattle.stretches.specs.declared.Place.{Place}
-use Rattle.stretches.specs.declared.Stretch.{Stretch}
+use Rattle.stretches.specs.Stretches.{Place}
+use Rattle.stretches.specs.Stretches.{Stretch}
 
 -- a place that the promise allows is the only one
 pub find_only : (bytes : List ℕ) (svid : ℕ) (result result' : Place) → result ≡ stretch_in (judgement_of bytes) svid → result' ≡ stretch_in (judgement_of bytes) svid →

@@ -6,8 +6,6 @@ use Rattle.catalogue.specs.Bytes.{modes_bytes, entry_bytes}
 use Rattle.judging.specs.Judging.{Judgement, judgement_of, noted}
 use Rattle.judging.specs.Walking.{svids_of, numbers_of}
 use Rattle.judging.specs.declared.walk.Walk.{Walk}
-use Rattle.stretches.specs.declared.Place.{Place}
-use Rattle.stretches.specs.declared.Stretch.{Stretch}
 
 -- 12: the file is sound, and the SVID is not in it
 abbrev pub not_listed : ℕ
@@ -16,6 +14,12 @@ not_listed = 12
 -- an SVID's record has 3 bytes
 abbrev pub svid_size : ℕ
 svid_size = 3
+
+-- the refusal number and the fault's offset; on acceptance where the stretch begins, and how many bytes it has, which are none with a refusal
+pub record Place : Type 0 where
+  pub refusal : ℕ
+  pub at : ℕ
+  pub length : ℕ
 
 abbrev pub refused_at : ℕ → ℕ → Place
 refused_at number at = record { refusal = number; at = at; length = 0 }
@@ -47,6 +51,12 @@ pub record PartOf (bytes : Bor (List ℕ)) (place : Place) (part : Bor (List ℕ
   pub bytes_are : part.now ≡ take place.length (drop place.at bytes.now)
   pub block_is : part.ref_ptr.0 ≡ bytes.ref_ptr.0
   pub offset_is : part.ref_ptr.1 ≡ bytes.ref_ptr.1 + place.at
+
+-- what is handed back: that part of the bytes, none with a refusal; the refusal number; and where the fault or the part stands
+pub record Stretch : Type 0 where
+  pub part : Bor (List ℕ)
+  pub refusal : ℕ
+  pub at : ℕ
 
 -- what the stretch promises: the refusal, where the fault or the part stands, and the part
 pub record Stretched (bytes : Bor (List ℕ)) (svid : ℕ) (result : Stretch) : Type 0 where

@@ -1,18 +1,23 @@
 -- Judging a page, one value after the other.
-use mathlib.Core.Path.{◌≡◌, refl, ap, ap₂, sym, ◌∙◌}
+use mathlib.Core.Path.{◌≡◌, refl, ap, sym, ◌∙◌}
 use mathlib.Core.Bool.{Bool, true, false, cond, not, ◌&&◌}
 use mathlib.Core.List.{List, [], ◌∷◌}
 use Prim.Native.Nat.{ℕ, suc, ◌+◌, ◌-◌, ◌<◌, ◌≤◌}
 use native.Mathlib.Omega.{arith}
-use lib.Dec.{leb, eqb}
-use lib.ListN.{length, get_or, take, drop, drop_of_length-le}
-use borrow.Author.Tests.{eq-eqb, ne_eqb, le-leb, lt-leb, leb-true}
+use lib.Dec.{leb, ltb, eqb}
+use lib.ListN.{length, get_or, take, drop, drop_of_length-le, length-drop}
+use borrow.Author.Tests.{leb-false, ltb-false, eq-eqb, le-leb, leb-true}
 use Rattle.laws.proofs.Lines.{and_left}
 use Rattle.pages.specs.Lists.{is_in}
 use Rattle.pages.specs.Pages.{read_off}
 use Rattle.taking.specs.Taking.{same_list, is_repeat, before, is_full, is_ending, all_new, adds, nothing, ending_verdict, verdict}
-use Rattle.taking.specs.declared.Verdict.TheVariants.{Bad, Repeat, More, Ends}
-use Rattle.pages.proofs.Scanning.{next}
+use Rattle.taking.specs.declared.Verdict.TheVariants.{Repeat, More, Ends}
+use Rattle.pages.proofs.Scanning.{next, rest_part}
+use Rattle.std.proofs.lemmas.Bool.Decides.{nat_tests}
+use Rattle.std.specs.Cmp.Lexicographic.{pointwise}
+use Rattle.std.specs.List.{position, position_or_len, ends_with}
+use Rattle.std.specs.Option.{unwrap_or}
+use Rattle.std.specs.Prelude.{Option, Some, None, nat_eq, ◌==◌}
 
 -- two lists, side by side
 pub same_length : (a b : List ℕ) → (length a ≡ length b → ⊥) → false ≡ same_list a b
@@ -26,73 +31,79 @@ same_length (x ∷ a) (y ∷ b) h = go (eqb x y) (same_length a b (λ e. h (ap s
     go true e = e
     go false e = refl
 
-module _ (a b : List ℕ) (i : ℕ) (ha : i < length a) (hb : i < length b) where
-  same_step : same_list (drop i a) (drop i b) ≡ (eqb (get_or a i 0) (get_or b i 0) && same_list (drop (i + 1) a) (drop (i + 1) b))
-  unfolding same_list
-  same_step = ap₂ same_list (next a i ha) (next b i hb)
-
-  pub same_differs : (get_or a i 0 ≡ get_or b i 0 → ⊥) → same_list (drop i a) (drop i b) ≡ false
-  same_differs h = same_step ∙ ap (λ (t : Bool). t && same_list (drop (i + 1) a) (drop (i + 1) b)) (ne_eqb _ _ h)
-
-  pub same_next : get_or a i 0 ≡ get_or b i 0 → same_list (drop i a) (drop i b) ≡ same_list (drop (i + 1) a) (drop (i + 1) b)
-  same_next e = same_step ∙ ap (λ (t : Bool). t && same_list (drop (i + 1) a) (drop (i + 1) b)) (eq-eqb _ _ e)
-
-pub same_done : (a b : List ℕ) (i : ℕ) → length a ≤ i → length b ≤ i → same_list (drop i a) (drop i b) ≡ true
+pub pointwise_same : (a b : List ℕ) → pointwise nat_eq b a ≡ same_list a b
 unfolding same_list
-same_done a b i ha hb = ap₂ same_list (drop_of_length-le a ha) (drop_of_length-le b hb)
+pointwise_same [] [] = refl
+pointwise_same [] (y ∷ b) = refl
+pointwise_same (x ∷ a) [] = refl
+pointwise_same (x ∷ a) (y ∷ b) = grind (arith, nat_tests, pointwise_same a b)
 
 -- the values before the first zero
-module _ (v : List ℕ) (i : ℕ) (h : i < length v) where
-  before_step : before (drop i v) ≡ length (cond (eqb (get_or v i 0) 0) [] (get_or v i 0 ∷ read_off (drop (i + 1) v)))
-  unfolding read_off
-  before_step = ap before (next v i h)
-
-  pub before_zero : get_or v i 0 ≡ 0 → before (drop i v) ≡ 0
-  before_zero e = before_step ∙ ap (λ (t : Bool). length (cond t [] (get_or v i 0 ∷ read_off (drop (i + 1) v)))) (eq-eqb _ _ e)
-
-  pub before_next : (get_or v i 0 ≡ 0 → ⊥) → before (drop i v) ≡ suc (before (drop (i + 1) v))
-  before_next e = before_step ∙ ap (λ (t : Bool). length (cond t [] (get_or v i 0 ∷ read_off (drop (i + 1) v)))) (ne_eqb _ _ e)
-
-pub before_done : (v : List ℕ) (i : ℕ) → length v ≤ i → before (drop i v) ≡ 0
+pub before_most : (v : List ℕ) → before v ≤ length v
 unfolding read_off
-before_done v i h = ap before (drop_of_length-le v h)
+before_most [] = omega arith
+before_most (x ∷ v) = go (eqb x 0) (before_most v)
+  where
+    go : (t : Bool) → before v ≤ length v → length (cond t [] (x ∷ read_off v)) ≤ suc (length v)
+    go true h = omega arith
+    go false h = omega arith
+
+place_before : (v : List ℕ) → position_or_len (λ (x : ℕ). x == 0) v ≡ before v
+unfolding read_off
+place_before [] = refl
+place_before (x ∷ v) = go (eqb x 0) (place_before v)
+  where
+    go : (t : Bool) → position_or_len (λ (y : ℕ). y == 0) v ≡ before v →
+        cond (not t) (1 + position_or_len (λ (y : ℕ). y == 0) v) 0 ≡ length (cond t [] (x ∷ read_off v))
+    go true e = refl
+    go false e = omega arith
+
+-- the first place of a zero, or else the end
+pub first_zero : (v : List ℕ) (place : Option ℕ) → place ≡ position (λ (x : ℕ). x == 0) v → unwrap_or place (length v) ≡ before v
+first_zero v place e = rw (e, place_before v) (go (ltb (before v) (length v)) refl)
+  where
+    go : (t : Bool) → ltb (before v) (length v) ≡ t → unwrap_or (cond t (Some (before v)) None) (length v) ≡ before v
+    go true h = refl
+    go false h = let l : length v ≤ before v = ltb-false _ _ h in omega (arith, before_most v)
 
 -- none gathered, none twice
 module _ (l v : List ℕ) (i : ℕ) (h : i < length v) where
-  new_step : all_new l (drop i v) ≡ (not (is_in (get_or v i 0) l) && (not (is_in (get_or v i 0) (drop (i + 1) v)) && all_new l (drop (i + 1) v)))
+  pub new_step : all_new l (drop i v) ≡ (not (is_in (get_or v i 0) l) && (not (is_in (get_or v i 0) (drop (i + 1) v)) && all_new l (drop (i + 1) v)))
   unfolding all_new
   new_step = ap (all_new l) (next v i h)
-
-  pub new_gathered : is_in (get_or v i 0) l ≡ true → all_new l (drop i v) ≡ false
-  new_gathered e = new_step ∙ rw e
-
-  pub new_twice : is_in (get_or v i 0) l ≡ false → is_in (get_or v i 0) (drop (i + 1) v) ≡ true → all_new l (drop i v) ≡ false
-  new_twice e f = new_step ∙ rw (e, f)
-
-  pub new_next : is_in (get_or v i 0) l ≡ false → is_in (get_or v i 0) (drop (i + 1) v) ≡ false → all_new l (drop i v) ≡ all_new l (drop (i + 1) v)
-  new_next e f = new_step ∙ rw (e, f)
 
 pub new_done : (l v : List ℕ) (i : ℕ) → length v ≤ i → all_new l (drop i v) ≡ true
 unfolding all_new
 new_done l v i h = ap (all_new l) (drop_of_length-le v h)
 
+-- what a step of `all_new` needs
+pub ruleset new_steps = (new_step, new_done, rest_part, nat_tests)
+
 -- the ways out of each test
 module _ (l v : List ℕ) where
-  pub repeat_few : length l < 12 → false ≡ is_repeat l v
-  unfolding is_repeat
-  repeat_few h = simp (lt-leb _ _ h)
-
   pub repeat_same : 12 ≤ length l → same_list (drop (length l - 12) l) v ≡ is_repeat l v
   unfolding is_repeat
   repeat_same h = simp (le-leb _ _ h)
 
-  pub adds_past : 72 < length l → false ≡ adds l v
-  unfolding adds
-  adds_past h = let past : 72 < length l + length v = omega arith in simp (lt-leb _ _ past)
+  pub repeat_is : length v ≡ 12 → ends_with nat_eq l v ≡ is_repeat l v
+  unfolding is_repeat
+  repeat_is e = rw (e, pointwise_same (drop (length l - 12) l) v) (go (leb 12 (length l)) refl)
+    where
+      go : (t : Bool) → leb 12 (length l) ≡ t → same_list (drop (length l - 12) l) v ≡ (t && same_list (drop (length l - 12) l) v)
+      go true h = refl
+      go false h =
+          let few : length l < 12 = leb-false _ _ h in
+          sym (same_length (drop (length l - 12) l) v (λ z. omega (arith, length-drop (length l - 12) l)))
 
-  pub adds_many : length l ≤ 72 → 72 - length l < length v → false ≡ adds l v
-  unfolding adds
-  adds_many f h = let past : 72 < length l + length v = omega arith in simp (lt-leb _ _ past)
+  pub repeat_not : (length v ≡ 12 → ⊥) → is_repeat l v ≡ false
+  unfolding is_repeat
+  repeat_not e = go (leb 12 (length l)) refl
+    where
+      go : (t : Bool) → leb 12 (length l) ≡ t → (t && same_list (drop (length l - 12) l) v) ≡ false
+      go true h =
+          let many : 12 ≤ length l = leb-true _ _ h in
+          sym (same_length (drop (length l - 12) l) v (λ z. e (omega (arith, length-drop (length l - 12) l))))
+      go false h = refl
 
   pub adds_new : length l ≤ 72 → length v ≤ 72 - length l → all_new l v ≡ adds l v
   unfolding adds
@@ -103,24 +114,9 @@ module _ (l v : List ℕ) where
   adds_fits e = leb-true _ _ (and_left (leb (length l + length v) 72) _ e)
 
 module _ (v : List ℕ) (n : ℕ) (e : n ≡ before v) where
-  pub full_short : (length v ≡ 12 → ⊥) → false ≡ is_full v
-  unfolding is_full
-  full_short h = simp (ne_eqb _ _ h)
-
   pub full_whole : length v ≡ 12 → eqb n 12 ≡ is_full v
   unfolding is_full
   full_whole h = simp (eq-eqb _ _ h) (ap (λ (k : ℕ). eqb k 12) e)
-
-  pub ending_none : length v ≤ n → false ≡ is_ending v
-  unfolding is_ending
-  ending_none h = let none : length v < before v + 1 = omega arith in simp (lt-leb _ _ none)
-
-  pub ending_more : n < length v → 2 < length v - n → false ≡ is_ending v
-  unfolding is_ending
-  ending_more l h =
-      let some : before v + 1 ≤ length v = omega arith in
-      let more : before v + 2 < length v = omega arith in
-      simp (le-leb _ _ some, lt-leb _ _ more)
 
   pub ending_last : n < length v → length v - n ≤ 2 → eqb (get_or v (length v - 1) 0) 0 ≡ is_ending v
   unfolding is_ending
@@ -128,9 +124,6 @@ module _ (v : List ℕ) (n : ℕ) (e : n ≡ before v) where
       let some : before v + 1 ≤ length v = omega arith in
       let two : length v ≤ before v + 2 = omega arith in
       simp (le-leb _ _ some, le-leb _ _ two)
-
-  pub nothing_is : (l : List ℕ) (t : Bool) → t ≡ nothing (length l) n → nothing (length l) (before v) ≡ t
-  nothing_is l t is = sym (is ∙ ap (nothing (length l)) e)
 
 pub take_before : (v : List ℕ) → take (before v) v ≡ read_off v
 unfolding read_off
@@ -142,21 +135,9 @@ take_before (x ∷ v) = go (eqb x 0) (take_before v)
     go false rest = ap (λ (m : List ℕ). x ∷ m) rest
 
 module _ (l v : List ℕ) where
-  pub ending_bad : is_ending v ≡ false → Bad ≡ ending_verdict l v
-  unfolding ending_verdict
-  ending_bad e = rw e
-
-  pub ending_nothing : is_ending v ≡ true → nothing (length l) (before v) ≡ true → Bad ≡ ending_verdict l v
-  unfolding ending_verdict
-  ending_nothing e n = rw (e, n)
-
   pub ending_adds : (n : ℕ) → n ≡ before v → is_ending v ≡ true → nothing (length l) (before v) ≡ false → adds l (read_off v) ≡ true → Ends n ≡ ending_verdict l v
   unfolding ending_verdict
   ending_adds n is e z a = ap Ends is ∙ rw (e, z, a)
-
-  pub ending_clashes : is_ending v ≡ true → nothing (length l) (before v) ≡ false → adds l (read_off v) ≡ false → Bad ≡ ending_verdict l v
-  unfolding ending_verdict
-  ending_clashes e z a = rw (e, z, a)
 
   pub verdict_repeat : is_repeat l v ≡ true → Repeat ≡ verdict l v
   unfolding verdict
@@ -166,23 +147,19 @@ module _ (l v : List ℕ) where
   unfolding verdict
   verdict_more r f a = rw (r, f, a)
 
-  pub verdict_clashes : is_repeat l v ≡ false → is_full v ≡ true → adds l v ≡ false → Bad ≡ verdict l v
-  unfolding verdict
-  verdict_clashes r f a = rw (r, f, a)
-
   pub verdict_ending : is_repeat l v ≡ false → is_full v ≡ false → ending_verdict l v ≡ verdict l v
   unfolding verdict ending_verdict
   verdict_ending r f = rw (r, f)
 
-pub before_most : (v : List ℕ) → before v ≤ length v
-unfolding read_off
-before_most [] = omega arith
-before_most (x ∷ v) = go (eqb x 0) (before_most v)
-  where
-    go : (t : Bool) → before v ≤ length v → length (cond t [] (x ∷ read_off v)) ≤ suc (length v)
-    go true h = omega arith
-    go false h = omega arith
+-- the part of the values before the first zero
+pub read_part : (v : List ℕ) (n : ℕ) → n ≡ before v → take n v ≡ read_off v
+read_part v n e = ap (λ (k : ℕ). take k v) e ∙ take_before v
 
--- the part of the values before the first zero, as the code takes it
-pub part_before : (v : List ℕ) (n : ℕ) → n ≡ before v → take (n - 0) v ≡ read_off v
-part_before v n e = let z : n - 0 ≡ before v = omega arith in ap (λ (k : ℕ). take k v) z ∙ take_before v
+pub part_size : (v : List ℕ) (n : ℕ) → n ≡ before v → length (take n v) ≡ n
+part_size v n e = ap length (read_part v n e) ∙ sym e
+
+-- what `judge_ending` needs
+pub ruleset ending_steps = (read_part, part_size, before_most, adds_fits, nat_tests)
+
+-- and what `is_repeat` needs
+pub ruleset repeat_steps = (repeat_is, repeat_not, nat_tests)

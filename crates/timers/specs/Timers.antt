@@ -1,5 +1,5 @@
 -- Timers and the protocol error (01, "The laptop end", Timers).
-use Rattle.std.specs.Prelude.{ℕ, cond, ◌&&◌, leb, ltb, eqb}
+use Rattle.std.specs.Prelude.{ℕ, cond, ◌&&◌, leb, ltb, eqb, Option, Some, None}
 use Rattle.messages.specs.Requests.{identity_command, enter_command}
 use Rattle.messages.specs.declared.request.Request.{Request}
 use Rattle.laptop.specs.Calls.{Decision, refuses, accepts}
@@ -7,9 +7,6 @@ use Rattle.laptop.specs.State.{ended, dropped}
 use Rattle.laptop.specs.declared.Laptop.{Laptop}
 use Rattle.laptop.specs.declared.Told.{Told}
 use Rattle.laptop.specs.declared.Told.TheVariants.{Nothing, Timer, ProtocolError}
-use Rattle.laptop.specs.declared.Wait.{Wait}
-use Rattle.laptop.specs.declared.Wait.TheVariants.{Answer}
-use Rattle.laptop.specs.declared.Wait.TheVariants.{Nothing as WaitNothing}
 
 -- the wait ends; Identity then leaves no candidate, other candidates stay; for Enter and Exit policy is told
 unfoldable pub over : Laptop → Request → Told → Decision
@@ -18,10 +15,10 @@ over l r told =
     (cond (ltb r.command enter_command) (accepts Nothing (ended l)) (accepts told (ended l)))
 
 -- the timer of commands from first to last; the wrong one, or nothing awaited, is 9
-unfoldable pub decide_timer : ℕ → ℕ → Laptop → Wait → Decision
-decide_timer first last l WaitNothing = refuses 9 l
-decide_timer first last l (Answer r) = cond (leb first r.command && leb r.command last) (over l r (Timer r)) (refuses 9 l)
+unfoldable pub decide_timer : ℕ → ℕ → Laptop → Option Request → Decision
+decide_timer first last l None = refuses 9 l
+decide_timer first last l (Some r) = cond (leb first r.command && leb r.command last) (over l r (Timer r)) (refuses 9 l)
 
-unfoldable pub decide_error : Laptop → Wait → Decision
-decide_error l WaitNothing = refuses 9 l
-decide_error l (Answer r) = over l r (ProtocolError r)
+unfoldable pub decide_error : Laptop → Option Request → Decision
+decide_error l None = refuses 9 l
+decide_error l (Some r) = over l r (ProtocolError r)

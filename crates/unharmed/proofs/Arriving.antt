@@ -18,8 +18,8 @@ use Rattle.laptop.specs.Calls.{is_awaiting}
 use Rattle.hearing.specs.Hearing.{Result, heard}
 use Rattle.laptop.specs.State.{Memory}
 use Rattle.laptop.specs.declared.Laptop.{Laptop}
-use Rattle.laptop.specs.declared.Wait.{Wait}
-use Rattle.laptop.specs.declared.Wait.TheVariants.{Nothing, Answer}
+use Rattle.std.specs.Prelude.{Option, Some, None}
+use Rattle.messages.specs.declared.request.Request.{Request}
 use Rattle.laptop_laws.specs.Effects.{message, effect_of}
 use Rattle.laptop_laws.specs.Holding.{Holding}
 use Rattle.laptop_laws.proofs.Laws.{keeps}
@@ -85,11 +85,11 @@ module _ (modes_of : ℕ → List ℕ) (d : Dock) (meets : Meets modes_of d) whe
     unfolding way_after
     way_after_lem = go landed.wait_lands
       where
-        same : (w : Wait) → WayFits w way → WayFits w (cond (is_awaiting w) way clear)
-        same Nothing f = tt
-        same (Answer r) f = f
+        same : (w : Option Request) → WayFits w way → WayFits w (cond (is_awaiting w) way clear)
+        same None f = tt
+        same (Some r) f = f
 
-        go : (result.step.laptop.wait ≡ Nothing) ⊎ (result.step.laptop ≡ l) →
+        go : (result.step.laptop.wait ≡ None) ⊎ (result.step.laptop ≡ l) →
             WayFits result.step.laptop.wait (way_after (effect_of (message bytes) l m []) way)
         go (inl e) = rw e tt
         go (inr e) = rw (landed.silent, e) (same l.wait i.way_fits)

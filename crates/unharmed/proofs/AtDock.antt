@@ -26,8 +26,7 @@ use Rattle.laptop.specs.declared.Candidate.{Candidate}
 use Rattle.laptop.specs.declared.Candidate.TheVariants.{Absent, Open, Done}
 use Rattle.laptop.specs.declared.Laptop.{Laptop}
 use Rattle.laptop.specs.declared.Size.{Size}
-use Rattle.laptop.specs.declared.Wait.{Wait}
-use Rattle.laptop.specs.declared.Wait.TheVariants.{Answer}
+use Rattle.std.specs.Prelude.{Option, Some}
 use Rattle.laptop_laws.specs.Holding.{Holding}
 use Rattle.laptop_laws.specs.WellFormed.{WaitFits}
 use Rattle.link.specs.Ends.{heard_at, dock_hears}
@@ -180,10 +179,10 @@ module _ (modes_of : ℕ → List ℕ) (d : Dock) where
       abbrev o : Out l.wait bytes
       o = i.way_fits
 
-      awaits : WaitFits (Answer o.asked) l.candidate l.pages l.stored m.svids
-      awaits = subst (λ (w : Wait). WaitFits w l.candidate l.pages l.stored m.svids) o.awaited i.formed.wait_fits
+      awaits : WaitFits (Some o.asked) l.candidate l.pages l.stored m.svids
+      awaits = subst (λ (w : Option Request). WaitFits w l.candidate l.pages l.stored m.svids) o.awaited i.formed.wait_fits
 
-      known : (r : Request) → r.command ≤ 5 → WaitFits (Answer r) l.candidate l.pages l.stored m.svids →
+      known : (r : Request) → r.command ≤ 5 → WaitFits (Some r) l.candidate l.pages l.stored m.svids →
           Known r (page_then r q) × (1 ≤ r.command) × (l.candidate ≡ Open → page_then r q ≡ q)
       unfolding page_then
       known r few (inl f) = (

@@ -24,8 +24,7 @@ use Rattle.laptop.specs.declared.Candidate.TheVariants.{Absent, Open, Done}
 use Rattle.laptop.specs.declared.Laptop.{Laptop}
 use Rattle.laptop.specs.declared.Told.{Told}
 use Rattle.laptop.specs.declared.Told.TheVariants.{Timer, ProtocolError}
-use Rattle.laptop.specs.declared.Wait.{Wait}
-use Rattle.laptop.specs.declared.Wait.TheVariants.{Nothing, Answer}
+use Rattle.std.specs.Prelude.{Option, Some, None}
 use Rattle.laptop_laws.specs.Effects.{Call, message, next, start_over, drop, enter, exit, timer, protocol_error, decided}
 use Rattle.laptop_laws.specs.Holding.{Holding, holding}
 use Rattle.laptop_laws.specs.WellFormed.{WaitFits, WellFormed}
@@ -66,29 +65,29 @@ module _ (l : Laptop) (c : Call) where
   next_decides svids Done e = asks_other (discover (get_or svids l.stored 0) modes_command) (omega arith) (omega arith) refl
 
   -- where Identity is awaited there is no candidate
-  pub identity_absent : (r : Request) (m : Memory) → WaitFits (Answer r) l.candidate l.pages l.stored m.svids → r.command ≡ 1 →
+  pub identity_absent : (r : Request) (m : Memory) → WaitFits (Some r) l.candidate l.pages l.stored m.svids → r.command ≡ 1 →
       l.candidate ≡ Absent
   identity_absent r m (inl f) e = f.1
   identity_absent r m (inr (inl f)) e = absurd (omega (arith, ap (λ (x : Request). x.command) f.0))
   identity_absent r m (inr (inr (inl f))) e = absurd (omega (arith, ap (λ (x : Request). x.command) f.0))
   identity_absent r m (inr (inr (inr f))) e = f.1
 
-  over_decides : (r : Request) (m : Memory) (told : Told) → WaitFits (Answer r) l.candidate l.pages l.stored m.svids → Decides l c (over l r told)
+  over_decides : (r : Request) (m : Memory) (told : Told) → WaitFits (Some r) l.candidate l.pages l.stored m.svids → Decides l c (over l r told)
   unfolding over
   over_decides r m told f =
       checked (eqb r.command 1) _ _ (λ e. drops _ (inl (identity_absent r m f (eqb-true r.command 1 e))) refl)
       (λ e. either (ltb r.command 4) _ _ (ends _ refl) (ends told refl))
 
-  timer_decides : (first last : ℕ) (m : Memory) (w : Wait) → WaitFits w l.candidate l.pages l.stored m.svids → Decides l c (decide_timer first last l w)
+  timer_decides : (first last : ℕ) (m : Memory) (w : Option Request) → WaitFits w l.candidate l.pages l.stored m.svids → Decides l c (decide_timer first last l w)
   unfolding decide_timer
-  timer_decides first last m Nothing f = stays 9 (λ e. omega arith) refl
-  timer_decides first last m (Answer r) f =
+  timer_decides first last m None f = stays 9 (λ e. omega arith) refl
+  timer_decides first last m (Some r) f =
       either (leb first r.command && leb r.command last) _ _ (over_decides r m (Timer r) f) (stays 9 (λ e. omega arith) refl)
 
-  error_decides : (m : Memory) (w : Wait) → WaitFits w l.candidate l.pages l.stored m.svids → Decides l c (decide_error l w)
+  error_decides : (m : Memory) (w : Option Request) → WaitFits w l.candidate l.pages l.stored m.svids → Decides l c (decide_error l w)
   unfolding decide_error
-  error_decides m Nothing f = stays 9 (λ e. omega arith) refl
-  error_decides m (Answer r) f = over_decides r m (ProtocolError r) f
+  error_decides m None f = stays 9 (λ e. omega arith) refl
+  error_decides m (Some r) f = over_decides r m (ProtocolError r) f
 
 module _ (modes_of : ℕ → List ℕ) (d : Dock) (old : Holding) where
   module _ (l : Laptop) (m : Memory) (way : Way) (q : ℕ) (t : Standing) (v : Carried) (z : ℕ) (i : Inv modes_of d old l m way q t v z)
@@ -121,9 +120,9 @@ module _ (modes_of : ℕ → List ℕ) (d : Dock) (old : Holding) where
     unfolding way_after
     way_stays x e n = rw (e, n) (go l.wait i.way_fits)
       where
-        go : (w : Wait) → WayFits w way → WayFits w (cond (is_awaiting w) way clear)
-        go Nothing f = tt
-        go (Answer r) f = f
+        go : (w : Option Request) → WayFits w way → WayFits w (cond (is_awaiting w) way clear)
+        go None f = tt
+        go (Some r) f = f
 
     stays_after : (x : Decision) → (step_of l x (length out)).laptop ≡ l → (step_of l x (length out)).length ≡ 0 → After x
     stays_after x e n f =
@@ -132,7 +131,7 @@ module _ (modes_of : ℕ → List ℕ) (d : Dock) (old : Holding) where
         (way_stays x e n) f
 
     -- a request goes out
-    asks_after : (r : Request) (l' : Laptop) → l'.wait ≡ Answer r → r.command ≤ 5 → holding l' m ≡ holding l m →
+    asks_after : (r : Request) (l' : Laptop) → l'.wait ≡ Some r → r.command ≤ 5 → holding l' m ≡ holding l m →
         CandidateIs modes_of d l'.candidate l'.gathered l'.stored l'.pages m t q v z → After (sends (request_message r) l')
     asks_after r l' w few h c = go (sends_out l l' m (request_message r) out way (ap is_awaiting w))
       where
@@ -145,10 +144,10 @@ module _ (modes_of : ℕ → List ℕ) (d : Dock) (old : Holding) where
         go (inr s) f = stays_after (sends (request_message r) l') s.0 s.1 f
 
     -- nothing is awaited any more
-    turns_after : (told : Told) (l' : Laptop) → l'.wait ≡ Nothing → holding l' m ≡ holding l m →
+    turns_after : (told : Told) (l' : Laptop) → l'.wait ≡ None → holding l' m ≡ holding l m →
         CandidateIs modes_of d l'.candidate l'.gathered l'.stored l'.pages m t q v z → After (accepts told l')
     unfolding step_of way_after
-    turns_after told l' w h c f = stands l' _ h c (subst (λ (x : Wait). WayFits l'.wait (cond (is_awaiting x) way clear)) (sym w) tt) f
+    turns_after told l' w h c f = stands l' _ h c (subst (λ (x : Option Request). WayFits l'.wait (cond (is_awaiting x) way clear)) (sym w) tt) f
 
     refuses_after : (number : ℕ) → After (refuses number l)
     unfolding step_of

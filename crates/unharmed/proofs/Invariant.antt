@@ -25,8 +25,7 @@ use Rattle.laptop.specs.declared.Candidate.{Candidate}
 use Rattle.laptop.specs.declared.Candidate.TheVariants.{Absent, Open, Done}
 use Rattle.laptop.specs.declared.Laptop.{Laptop}
 use Rattle.laptop.specs.declared.Size.{Size}
-use Rattle.laptop.specs.declared.Wait.{Wait}
-use Rattle.laptop.specs.declared.Wait.TheVariants.{Answer}
+use Rattle.std.specs.Prelude.{Option, Some}
 use Rattle.laptop_laws.specs.Holding.{Holding, holding}
 use Rattle.laptop_laws.specs.WellFormed.{WellFormed}
 use Rattle.link.specs.Demand.{whole, held_in}
@@ -34,15 +33,15 @@ use Rattle.link.specs.Joined.{Way, clear, request, Fate, gone, coming, confirmed
 use Rattle.unharmed.proofs.Course.{FairAnswer, identity_ack, page_ack, modes_ack, mode_ack, list_nak, busy_to, is_page, Carried, nothing, under_way, sure, arrived, Settled, Course}
 
 -- a request that goes out is awaited, and is one of Identity to Exit
-pub record Out (w : Wait) (bytes : List ℕ) : Type 0 where
+pub record Out (w : Option Request) (bytes : List ℕ) : Type 0 where
   pub asked : Request
-  pub awaited : w ≡ Answer asked
+  pub awaited : w ≡ Some asked
   pub asked_at : Edition
   pub bytes_are : bytes ≡ message_bytes asked_at (request_message asked)
   pub shaped : well_shaped (request_message asked) ≡ true
   pub few : asked.command ≤ exit_command
 
-abbrev pub WayFits : Wait → Way → Type 0
+abbrev pub WayFits : Option Request → Way → Type 0
 WayFits w clear = Unit
 WayFits w (request bytes) = Out w bytes
 

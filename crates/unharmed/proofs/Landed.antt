@@ -14,7 +14,7 @@ use Rattle.dock.specs.declared.Standing.{Standing}
 use Rattle.hearing.specs.Hearing.{fits, is_late_page, hear_answer, heard}
 use Rattle.laptop.specs.State.{Memory}
 use Rattle.laptop.specs.declared.Laptop.{Laptop}
-use Rattle.laptop.specs.declared.Wait.TheVariants.{Answer}
+use Rattle.std.specs.Prelude.{Some}
 use Rattle.laptop_laws.specs.WellFormed.{WellFormed}
 use Rattle.laptop_laws.proofs.Fitting.{fits_is}
 use Rattle.link.specs.Demand.{Meets}
@@ -31,7 +31,7 @@ module _ (modes_of : ℕ → List ℕ) (d : Dock) (meets : Meets modes_of d) (l 
     (formed : WellFormed l m) (candidate : CandidateIs modes_of d l.candidate l.gathered l.stored l.pages m t q v z) where
   -- all of them
   answer_landed : (at : Edition) (a : FairAnswer) (shaped : Shaped modes_of d a) (gave : Gave modes_of d a q) (arrival : Arrival (listed d) t q z a v) →
-      l.wait ≡ Answer (request_of (message_of modes_of d a).head) → LandsOf modes_of d meets l m q t z v formed candidate a shaped gave arrival (hear_answer l m at (message_of modes_of d a))
+      l.wait ≡ Some (request_of (message_of modes_of d a).head) → LandsOf modes_of d meets l m q t z v formed candidate a shaped gave arrival (hear_answer l m at (message_of modes_of d a))
   answer_landed at identity_ack shaped gave arrival waits =
       subst (LandsOf modes_of d meets l m q t z v formed candidate identity_ack shaped gave arrival) (sym (identity_heard l m at (take d.extent d.identity))) (identity_lands modes_of d meets l m q t z v formed candidate shaped gave arrival waits at)
   answer_landed at (page_ack p) shaped gave arrival waits = svids_landed modes_of d meets l m q t z v formed candidate p shaped gave arrival waits at

@@ -22,7 +22,7 @@ use Rattle.laptop.specs.declared.Candidate.TheVariants.{Absent, Open, Done}
 use Rattle.laptop.specs.declared.Laptop.{Laptop}
 use Rattle.laptop.specs.declared.Told.{Told}
 use Rattle.laptop.specs.declared.Told.TheVariants.{Nothing as ToldNothing}
-use Rattle.laptop.specs.declared.Wait.TheVariants.{Nothing}
+use Rattle.std.specs.Prelude.{None}
 use Rattle.laptop_laws.specs.Holding.{holding}
 use Rattle.laptop_laws.specs.WellFormed.{awaits_identity, WellFormed}
 use Rattle.link.specs.Demand.{Meets, whole, held_in}
@@ -63,7 +63,7 @@ module _ (modes_of : ℕ → List ℕ) (d : Dock) (meets : Meets modes_of d) (l 
     pub candidate_lands : CandidateLands r (arrival.fate_then (unsure r)) (lost_after r)
     pub new_lands : is_last_head l head ≡ true → held_in (holding r.step.laptop r.after) ≡ holds (whole modes_of d)
     pub old_lands : is_last_head l head ≡ false → holding r.step.laptop r.after ≡ holding l m
-    pub wait_lands : (r.step.laptop.wait ≡ Nothing) ⊎ (r.step.laptop ≡ l)
+    pub wait_lands : (r.step.laptop.wait ≡ None) ⊎ (r.step.laptop ≡ l)
     pub silent : r.step.length ≡ 0
     pub refusal_lands : (r.step.refusal ≡ 0) ⊎ ((r.step.refusal ≡ 6) ⊎ (r.step.refusal ≡ 14))
     pub end_lands : EndLands r

@@ -23,8 +23,7 @@ use Rattle.laptop.specs.State.{ended, dropped, awaiting, identity_request, ident
 use Rattle.laptop.specs.declared.Candidate.{Candidate}
 use Rattle.laptop.specs.declared.Candidate.TheVariants.{Absent}
 use Rattle.laptop.specs.declared.Laptop.{Laptop}
-use Rattle.laptop.specs.declared.Wait.{Wait}
-use Rattle.laptop.specs.declared.Wait.TheVariants.{Nothing, Answer}
+use Rattle.std.specs.Prelude.{Option, Some, None}
 use Rattle.laptop_laws.specs.Effects.{Call, message, next, start_over, drop, enter, exit, timer, protocol_error, decided}
 use Rattle.laptop_laws.specs.WellFormed.{WaitFits, WellFormed}
 use Rattle.laptop_laws.proofs.Laws.{keeps}
@@ -42,30 +41,30 @@ pub identity_shaped : well_shaped (request_message identity_request) ≡ true
 unfolding well_shaped shape fits row_of counts_of
 identity_shaped = refl
 
-abbrev awaited_by : Wait → Request
-awaited_by Nothing = identity_request
-awaited_by (Answer r) = r
+abbrev awaited_by : Option Request → Request
+awaited_by None = identity_request
+awaited_by (Some r) = r
 
 -- a call with which a laptop at rest comes to await Identity has sent it
 module _ (modes_of : ℕ → List ℕ) (s : System) (rest : AtRest s) (out : List ℕ) where
   abbrev Asks : Call → Decision → Type 0
   Asks c x =
-      (laptop_step_of s.laptop x (length out)).laptop.wait ≡ Answer identity_request →
+      (laptop_step_of s.laptop x (length out)).laptop.wait ≡ Some identity_request →
       way_after (decided s.laptop s.memory out x) s.way ≡ request (message_bytes ours (request_message identity_request))
 
-  idle : (l : Laptop) → l.wait ≡ Nothing → l.wait ≡ Answer identity_request → ⊥
-  idle l e f = let n : ◌≡◌ {A = Wait} Nothing (Answer identity_request) = sym e ∙ f in let o : ◌≡◌ {A = ℕ} 0 1 = cc in omega arith
+  idle : (l : Laptop) → l.wait ≡ None → l.wait ≡ Some identity_request → ⊥
+  idle l e f = let n : ◌≡◌ {A = Option Request} None (Some identity_request) = sym e ∙ f in let o : ◌≡◌ {A = ℕ} 0 1 = cc in omega arith
 
-  asks_sent : (r : Request) (after : Laptop) → after.wait ≡ Answer r → (r.command ≡ 1 → after.edition ≡ ours) → (c : Call) →
+  asks_sent : (r : Request) (after : Laptop) → after.wait ≡ Some r → (r.command ≡ 1 → after.edition ≡ ours) → (c : Call) →
       Asks c (sends (request_message r) after)
   asks_sent r after w at c e = go (sends_out s.laptop after s.memory (request_message r) out s.way (ap is_awaiting w))
     where
       go : SendsOut s.laptop after s.memory (request_message r) out s.way (ap is_awaiting w) →
           way_after (decided s.laptop s.memory out (sends (request_message r) after)) s.way ≡ request (message_bytes ours (request_message identity_request))
       go (inl f) =
-          let same : Answer r ≡ Answer identity_request = sym w ∙ ap (λ (l : Laptop). l.wait) (sym f.0) ∙ e in
-          let first : r.command ≡ 1 = ap (λ (x : Wait). (awaited_by x).command) same in
-          f.1 ∙ ap₂ (λ (n : Edition) (x : Wait). request (message_bytes n (request_message (awaited_by x)))) (at first) same
+          let same : Some r ≡ Some identity_request = sym w ∙ ap (λ (l : Laptop). l.wait) (sym f.0) ∙ e in
+          let first : r.command ≡ 1 = ap (λ (x : Option Request). (awaited_by x).command) same in
+          f.1 ∙ ap₂ (λ (n : Edition) (x : Option Request). request (message_bytes n (request_message (awaited_by x)))) (at first) same
       go (inr f) = absurd (idle s.laptop rest.nothing_awaited (ap (λ (l : Laptop). l.wait) (sym f.0) ∙ e))
 
   decided_sent : (c : Call) (x : Decision) → Decides s.laptop c x → Asks c x
@@ -77,7 +76,7 @@ module _ (modes_of : ℕ → List ℕ) (s : System) (rest : AtRest s) (out : Lis
   decided_sent c x (ends told f) = subst (Asks c) (sym f) (λ e. absurd (idle (ended s.laptop) refl e))
 
   begins_by : (c : Call) (x : Decision) → Decides s.laptop c x → step modes_of (calls c out) s ≡ after_call (decided s.laptop s.memory out x) s →
-      WellFormed (laptop_step_of s.laptop x (length out)).laptop s.memory → (step modes_of (calls c out) s).laptop.wait ≡ Answer identity_request →
+      WellFormed (laptop_step_of s.laptop x (length out)).laptop s.memory → (step modes_of (calls c out) s).laptop.wait ≡ Some identity_request →
       Begins (step modes_of (calls c out) s)
   begins_by c x f e w a =
       subst Begins (sym e)
@@ -89,7 +88,7 @@ module _ (modes_of : ℕ → List ℕ) (s : System) (rest : AtRest s) (out : Lis
         at_rest = rest.dock_ready;
       })
 
-  pub begins_with : (c : Call) → (step modes_of (calls c out) s).laptop.wait ≡ Answer identity_request → Begins (step modes_of (calls c out) s)
+  pub begins_with : (c : Call) → (step modes_of (calls c out) s).laptop.wait ≡ Some identity_request → Begins (step modes_of (calls c out) s)
   unfolding step called
   begins_with (message bytes) a = absurd (idle s.laptop rest.nothing_awaited a)
   begins_with next a = begins_by next _ (next_is s.laptop s.memory rest.formed) refl (keeps next s.laptop s.memory out rest.formed) a
@@ -112,7 +111,7 @@ module _ (modes_of : ℕ → List ℕ) (start : System) (meets : Meets modes_of 
   pub no_candidate : start.laptop.candidate ≡ Absent
   no_candidate =
       identity_absent start.laptop next identity_request start.memory
-      (subst (λ (w : Wait). WaitFits w start.laptop.candidate start.laptop.pages start.laptop.stored start.memory.svids)
+      (subst (λ (w : Option Request). WaitFits w start.laptop.candidate start.laptop.pages start.laptop.stored start.memory.svids)
       begins.identity_awaited begins.formed.wait_fits) refl
 
   pub begun : Reached modes_of start.dock (held_words start) start

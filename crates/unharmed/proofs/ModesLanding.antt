@@ -27,7 +27,7 @@ use Rattle.laptop.specs.declared.Candidate.{Candidate}
 use Rattle.laptop.specs.declared.Candidate.TheVariants.{Done}
 use Rattle.laptop.specs.declared.Laptop.{Laptop}
 use Rattle.laptop.specs.declared.Told.TheVariants.{Nothing as ToldNothing}
-use Rattle.laptop.specs.declared.Wait.TheVariants.{Answer}
+use Rattle.std.specs.Prelude.{Some}
 use Rattle.laptop_laws.specs.Holding.{holding}
 use Rattle.laptop_laws.specs.WellFormed.{Listed, CandidateFits, awaits_identity, WellFormed}
 use Rattle.laptop_laws.proofs.Behind.{below}
@@ -46,7 +46,7 @@ module _ (modes_of : ℕ → List ℕ) (d : Dock) (meets : Meets modes_of d) (l 
     (formed : WellFormed l m) (candidate : CandidateIs modes_of d l.candidate l.gathered l.stored l.pages m t q v z) where
   -- Modes
   module _ (svid : ℕ) (shaped : Shaped modes_of d (modes_ack svid)) (gave : Gave modes_of d (modes_ack svid) q)
-      (arrival : Arrival (listed d) t q z (modes_ack svid) v) (waits : l.wait ≡ Answer (discover svid modes_command)) where
+      (arrival : Arrival (listed d) t q z (modes_ack svid) v) (waits : l.wait ≡ Some (discover svid modes_command)) where
     pub modes_with : (l.candidate ≡ Done) × (svid ≡ get_or m.svids l.stored 0)
     modes_with = with_modes l.candidate l.pages l.stored m.svids svid (awaits l m formed (discover svid modes_command) waits)
 

@@ -36,7 +36,7 @@ use Rattle.laptop.specs.declared.Candidate.TheVariants.{Absent, Open, Done}
 use Rattle.laptop.specs.declared.Laptop.{Laptop}
 use Rattle.laptop.specs.declared.Told.{Told}
 use Rattle.laptop.specs.declared.Told.TheVariants.{Nothing as ToldNothing}
-use Rattle.laptop.specs.declared.Wait.TheVariants.{Answer}
+use Rattle.std.specs.Prelude.{Some}
 use Rattle.laptop_laws.specs.Holding.{holding}
 use Rattle.laptop_laws.specs.WellFormed.{Listed, CandidateFits, WaitFits, WellFormed}
 use Rattle.link.specs.Demand.{Meets, entries_of, whole, held_in}
@@ -53,7 +53,7 @@ module _ (modes_of : ℕ → List ℕ) (d : Dock) (meets : Meets modes_of d) (l 
     (formed : WellFormed l m) (candidate : CandidateIs modes_of d l.candidate l.gathered l.stored l.pages m t q v z) where
   -- Identity ACK opens an empty list
   module _ (shaped : Shaped modes_of d identity_ack) (gave : Gave modes_of d identity_ack q) (arrival : Arrival (listed d) t q z identity_ack v)
-      (waits : l.wait ≡ Answer identity_request) where
+      (waits : l.wait ≡ Some identity_request) where
     abbrev objects : List ℕ
     objects = take d.extent d.identity
 
@@ -95,7 +95,7 @@ module _ (modes_of : ℕ → List ℕ) (d : Dock) (meets : Meets modes_of d) (l 
 
   -- NAK to SVIDs of an empty list: an empty catalogue is published
   module _ (shaped : Shaped modes_of d list_nak) (gave : Gave modes_of d list_nak q) (arrival : Arrival (listed d) t q z list_nak v)
-      (waits : l.wait ≡ Answer (discover pd_sid svids_command)) where
+      (waits : l.wait ≡ Some (discover pd_sid svids_command)) where
     pub nak_last : is_last_head l (message_of modes_of d list_nak).head ≡ true
     unfolding is_last_head
     nak_last = rw waits
@@ -154,7 +154,7 @@ module _ (modes_of : ℕ → List ℕ) (d : Dock) (meets : Meets modes_of d) (l 
 
   -- Enter and Exit: a mark changes
   module _ (r : Request) (shaped : Shaped modes_of d (mode_ack r)) (gave : Gave modes_of d (mode_ack r) q) (arrival : Arrival (listed d) t q z (mode_ack r) v)
-      (waits : l.wait ≡ Answer r) where
+      (waits : l.wait ≡ Some r) where
     pub mode_last : is_last_head l (message_of modes_of d (mode_ack r)).head ≡ false
     unfolding is_last_head
     mode_last =
@@ -194,7 +194,7 @@ module _ (modes_of : ℕ → List ℕ) (d : Dock) (meets : Meets modes_of d) (l 
 
   -- BUSY
   module _ (r : Request) (shaped : Shaped modes_of d (busy_to r)) (gave : Gave modes_of d (busy_to r) q) (arrival : Arrival (listed d) t q z (busy_to r) v)
-      (waits : l.wait ≡ Answer r) where
+      (waits : l.wait ≡ Some r) where
     pub busy_last : is_last_head l (message_of modes_of d (busy_to r)).head ≡ false
     unfolding is_last_head
     busy_last =
@@ -212,7 +212,7 @@ module _ (modes_of : ℕ → List ℕ) (d : Dock) (meets : Meets modes_of d) (l 
     pub busy_landed : (at : Edition) → BusyLands (hear_answer l m at (message_of modes_of d (busy_to r)))
     busy_landed at = go (awaits l m formed r waits)
       where
-        go : WaitFits (Answer r) l.candidate l.pages l.stored m.svids → BusyLands (hear_answer l m at (message_of modes_of d (busy_to r)))
+        go : WaitFits (Some r) l.candidate l.pages l.stored m.svids → BusyLands (hear_answer l m at (message_of modes_of d (busy_to r)))
         go (inl f) =
             subst BusyLands (sym (ap (λ (x : Request). hear_answer l m at (reply x busy [])) f.0 ∙ identity_busy l m at)) (given_up_lands f.1)
         go (inr (inl f)) =

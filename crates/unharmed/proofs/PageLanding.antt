@@ -28,7 +28,7 @@ use Rattle.laptop.specs.declared.Candidate.{Candidate}
 use Rattle.laptop.specs.declared.Candidate.TheVariants.{Open, Done}
 use Rattle.laptop.specs.declared.Laptop.{Laptop}
 use Rattle.laptop.specs.declared.Told.TheVariants.{Nothing as ToldNothing}
-use Rattle.laptop.specs.declared.Wait.TheVariants.{Nothing, Answer}
+use Rattle.std.specs.Prelude.{Some, None}
 use Rattle.laptop_laws.specs.Holding.{holding}
 use Rattle.laptop_laws.specs.WellFormed.{Listed, CandidateFits, awaits_identity, WellFormed}
 use Rattle.laptop_laws.proofs.Behind.{sets_behind}
@@ -45,7 +45,7 @@ module _ (modes_of : ℕ → List ℕ) (d : Dock) (meets : Meets modes_of d) (l 
     (formed : WellFormed l m) (candidate : CandidateIs modes_of d l.candidate l.gathered l.stored l.pages m t q v z) where
   -- a page, while the list is open
   module _ (p : ℕ) (shaped : Shaped modes_of d (page_ack p)) (gave : Gave modes_of d (page_ack p) q) (arrival : Arrival (listed d) t q z (page_ack p) v)
-      (waits : l.wait ≡ Answer (discover pd_sid svids_command)) where
+      (waits : l.wait ≡ Some (discover pd_sid svids_command)) where
     pub page_last_no : is_last_head l (message_of modes_of d (page_ack p)).head ≡ false
     unfolding is_last_head
     page_last_no = and_no (fits l.wait (message_of modes_of d (page_ack p)).head)
@@ -78,7 +78,7 @@ module _ (modes_of : ℕ → List ℕ) (d : Dock) (meets : Meets modes_of d) (l 
     PageLands r = LandsOf modes_of d meets l m q t z v formed candidate (page_ack p) shaped gave arrival r
 
     -- what all pages have in common: what is held stays
-    page_lands : (g : Gathering) → holding g.step.laptop m ≡ holding l m → g.step.laptop.wait ≡ Nothing → g.step.length ≡ 0 →
+    page_lands : (g : Gathering) → holding g.step.laptop m ≡ holding l m → g.step.laptop.wait ≡ None → g.step.length ≡ 0 →
         (g.step.refusal ≡ 0) ⊎ (g.step.refusal ≡ 14) → (is_absent g.step.laptop.candidate ≡ true → g.step.refusal ≡ 14) →
         g.step.laptop.pages ≡ l.pages + 1 →
         CandidateIs modes_of d g.step.laptop.candidate g.step.laptop.gathered g.step.laptop.stored g.step.laptop.pages

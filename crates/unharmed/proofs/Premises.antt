@@ -16,7 +16,7 @@ use Rattle.dock.specs.declared.Dock.{Dock}
 use Rattle.dock.specs.declared.Standing.TheVariants.{Ready}
 use Rattle.dock.proofs.Kept.{loaded_sound}
 use Rattle.laptop.specs.State.{Memory, fresh_laptop}
-use Rattle.laptop.specs.declared.Wait.TheVariants.{Nothing}
+use Rattle.std.specs.Prelude.{None}
 use Rattle.laptop_laws.specs.Effects.{Call, kept_after}
 use Rattle.laptop_laws.specs.WellFormed.{Lent}
 use Rattle.laptop_laws.proofs.Laws.{fresh, keeps_all}
@@ -61,7 +61,7 @@ module _ (modes_of : ℕ → List ℕ) (at : Edition) (identity svids : List ℕ
 
 -- a laptop that was fresh and was lent its arrays, after any calls, where it awaits nothing, and a dock that is ready
 pub rests_after : (history : List (Call × List ℕ)) (m : Memory) (highest : Edition) (d : Dock) → Lent m → m.entered ≡ replicate 72 0 → d.standing ≡ Ready →
-    (kept_after history (record { laptop = fresh_laptop; memory = m })).laptop.wait ≡ Nothing →
+    (kept_after history (record { laptop = fresh_laptop; memory = m })).laptop.wait ≡ None →
     AtRest (apart (kept_after history (record { laptop = fresh_laptop; memory = m })) highest d)
 rests_after history m highest d lent e r idle =
     record {

@@ -1,22 +1,30 @@
 -- `exit` meets its promise.
-use Rattle.modes.proofs.Entering.{exit_refused, exit_lacks, exit_asks}
-use Rattle.laptop.proofs.Steps.{refuse, same}
+use mathlib.Core.Path.{◌≡◌}
+use native.Mathlib.Omega.{arith}
+use Rattle.std.proofs.lemmas.Grind.{common_steps}
+use Rattle.messages.specs.Refusals.{number_in}
+use Rattle.laptop.specs.Catalogue.{held_list}
+use Rattle.laptop.proofs.Steps.{stop, go_on}
+use Rattle.owner.specs.Owner.{exit_refusal, decide_exit}
 use Rattle.modes.proofs.exit.Goals as goal
 
-pub returns-then-number-ne0 : goal.returns-then-number-ne0
-returns-then-number-ne0 c = let a = c.args in
-    refuse a.laptop a.laptop _ _ a.out.now _
-    (exit_refused a.laptop a.held_svids.now a.held_modes.now a.entered.now _ _ a.svid a.position _
-    c.owner_refusal-number.ensures c.if-number-ne0.true) c.refused.ensures
+pub returns-in_err-map_err : goal.returns-in_err-map_err
+unfolding decide_exit
+returns-in_err-map_err c = let a = c.args in
+    stop a.laptop _ _ a.out.now _ c.owner_check.ensures c.from_residual.result c.from_residual.ensures.0 (grind (arith, common_steps))
 
-pub returns-then-lacks-ne0 : goal.returns-then-lacks-ne0
-returns-then-lacks-ne0 c = let a = c.args in
-    refuse a.laptop a.laptop _ _ a.out.now _
-    (exit_lacks a.laptop a.held_svids.now a.held_modes.now a.entered.now _ _ a.svid a.position _
-    c.owner_refusal-number.ensures c.if-number-ne0.false _ c.held_list-list.ensures _ c.exit_refusal-lacks.ensures c.if-lacks-ne0.true) c.refused-then-lacks-ne0.ensures
+pub returns-in_err-map_err-2 : goal.returns-in_err-map_err-2
+unfolding decide_exit
+returns-in_err-map_err-2 c = let a = c.args in
+    let lacks : number_in c.exit_check.result ≡ exit_refusal (held_list a.laptop.held a.held_svids.now) a.held_modes.now a.entered.now a.svid a.position =
+    grind (arith, common_steps) in
+    go_on a.laptop _ _ a.out.now _ c.owner_check.ensures _ _ (grind (arith, common_steps))
+    (stop a.laptop _ _ a.out.now _ lacks c.from_residual-in_err-map_err-2.result c.from_residual-in_err-map_err-2.ensures.0 (grind (arith, common_steps)))
 
 pub returns : goal.returns
+unfolding decide_exit
 returns c = let a = c.args in
-    same a.laptop _ _ a.out.now _ _
-    (exit_asks a.laptop a.held_svids.now a.held_modes.now a.entered.now _ _ a.svid a.position _
-    c.owner_refusal-number.ensures c.if-number-ne0.false _ c.held_list-list.ensures _ c.exit_refusal-lacks.ensures _ c.if-lacks-ne0.false c.named_by.ensures) c.ask.ensures
+    let lacks : number_in c.exit_check.result ≡ exit_refusal (held_list a.laptop.held a.held_svids.now) a.held_modes.now a.entered.now a.svid a.position =
+    grind (arith, common_steps) in
+    go_on a.laptop _ _ a.out.now _ c.owner_check.ensures _ _ (grind (arith, common_steps))
+    (go_on a.laptop _ _ a.out.now _ lacks _ _ (grind (arith, common_steps)) c.ask.ensures)

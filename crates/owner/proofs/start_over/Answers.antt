@@ -1,14 +1,16 @@
 -- `start_over` meets its promise.
-use Rattle.owner.proofs.Asking.{start_refused, start_asks}
-use Rattle.laptop.proofs.Steps.{refuse, same}
+use native.Mathlib.Omega.{arith}
+use Rattle.std.proofs.lemmas.Grind.{common_steps}
+use Rattle.laptop.proofs.Steps.{stop, go_on}
+use Rattle.owner.specs.Owner.{decide_start_over}
 use Rattle.owner.proofs.start_over.Goals as goal
 
-pub returns-then-number-ne0 : goal.returns-then-number-ne0
-returns-then-number-ne0 c = let a = c.args in
-    refuse a.laptop a.laptop _ _ a.out.now _ (start_refused a.laptop a.entered.now _ _ _ c.asking_refusal-number.ensures c.if-number-ne0.true)
-    c.refused.ensures
+pub returns-in_err-map_err : goal.returns-in_err-map_err
+unfolding decide_start_over
+returns-in_err-map_err c = let a = c.args in
+    stop a.laptop _ _ a.out.now _ c.asking_check.ensures c.from_residual.result c.from_residual.ensures.0 (grind (arith, common_steps))
 
 pub returns : goal.returns
+unfolding decide_start_over
 returns c = let a = c.args in
-    same a.laptop _ _ a.out.now _ _ (start_asks a.laptop a.entered.now _ _ _ c.asking_refusal-number.ensures c.if-number-ne0.false)
-    c.ask_identity.ensures
+    go_on a.laptop _ _ a.out.now _ c.asking_check.ensures _ _ (grind (arith, common_steps)) c.ask_identity.ensures

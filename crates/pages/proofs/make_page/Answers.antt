@@ -1,18 +1,15 @@
--- `make_page` meets its promise: past the list, full, or at its end.
-use Rattle.pages.proofs.Making.{shown_page_lem, count_past, count_full, count_last}
+-- `make_page` meets its promise.
+use Prim.Native.Nat.{◌*◌, ℕ}
+use mathlib.Core.Path.{ap, ◌∙◌}
+use native.Mathlib.Omega.{arith}
+use Rattle.pages.specs.Pages.{pairs_from}
+use Rattle.pages.proofs.Making.{shown_page_lem, count_is}
 use Rattle.pages.proofs.make_page.Goals as goal
 
-pub returns-then-list-at : goal.returns-then-list-at
-returns-then-list-at c = let l = c.args.list.now in
-    let p = c.args.page in
-    shown_page_lem l p _ _ c.pairs_from-objects.ensures (count_past l p c.if-list-at.true)
-
-pub returns-then-rest-ge-PER_PAGE : goal.returns-then-rest-ge-PER_PAGE
-returns-then-rest-ge-PER_PAGE c = let l = c.args.list.now in
-    let p = c.args.page in
-    shown_page_lem l p _ _ c.pairs_from-objects.ensures (count_full l p c.if-rest-ge-PER_PAGE.true)
-
 pub returns : goal.returns
-returns c = let l = c.args.list.now in
+returns c =
+    let l = c.args.list.now in
     let p = c.args.page in
-    shown_page_lem l p _ _ c.pairs_from-objects.ensures (count_last l p c.if-list-at.false c.if-rest-ge-PER_PAGE.false)
+    shown_page_lem l p _ _
+    (c.pairs_from.ensures ∙ ap (λ (n : ℕ). pairs_from l (n * 12)) c.from-at.ensures)
+    (count_is l p _ (omega (arith, c.min.ensures, c.saturating_sub-rest.ensures, c.from-at.ensures)))

@@ -3,12 +3,10 @@ use borrow.Author.Tests.{lt-leb, le-leb}
 use Rattle.records.specs.Records.{is_identity}
 use Rattle.records.proofs.is_identity.Goals as goal
 
-pub returns-then-kind-lt-LEAST_OBJECTS : goal.returns-then-kind-lt-LEAST_OBJECTS
+pub returns-then-kind-ge-LEAST_OBJECTS : goal.returns-then-kind-ge-LEAST_OBJECTS
 unfolding is_identity
-returns-then-kind-lt-LEAST_OBJECTS c =
-    simp (lt-leb 3 _ c.if-kind-lt-LEAST_OBJECTS.true)
+returns-then-kind-ge-LEAST_OBJECTS c = simp (le-leb 3 _ c.if-kind-ge-LEAST_OBJECTS.true)
 
-pub returns : goal.returns
+pub returns-else-kind-ge-LEAST_OBJECTS : goal.returns-else-kind-ge-LEAST_OBJECTS
 unfolding is_identity
-returns c =
-    simp (le-leb 3 _ c.if-kind-lt-LEAST_OBJECTS.false)
+returns-else-kind-ge-LEAST_OBJECTS c = simp (lt-leb 3 _ c.if-kind-ge-LEAST_OBJECTS.false)

@@ -6,7 +6,7 @@ use lib.ListN.{get_or}
 use Rattle.messages.specs.Layout.{objects_of}
 use Rattle.pages.proofs.Scanning.{rest_part}
 use Rattle.records.specs.Records.{mode_in}
-use Rattle.records.specs.declared.Found.TheVariants.{Whole}
+use Rattle.records.specs.Records.{Whole}
 use Rattle.records.specs.declared.Record.TheVariants.{Mode}
 use Rattle.records.proofs.Finding.{mode_cut, mode_whole}
 use Rattle.records.proofs.mode_in.Goals as goal

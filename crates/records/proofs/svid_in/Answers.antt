@@ -1,9 +1,10 @@
 -- `svid_in` meets its promise.
-use mathlib.Core.Path.{ap, sym, ◌∙◌}
+use mathlib.Core.Path.{◌≡◌, ap, sym, ◌∙◌}
+use lib.ListN.{drop}
 use Prim.Native.Nat.{ℕ}
 use lib.Seq.{get_or-drop}
 use Rattle.records.specs.Records.{svid_in}
-use Rattle.records.specs.declared.Found.TheVariants.{Whole}
+use Rattle.records.specs.Records.{Whole}
 use Rattle.records.specs.declared.Record.TheVariants.{Svid}
 use Rattle.records.proofs.Finding.{svid_cut, svid_whole}
 use Rattle.records.proofs.svid_in.Goals as goal
@@ -15,4 +16,5 @@ returns-then-bytes-lt-SVID_RECORD c =
 pub returns : goal.returns
 unfolding svid_in
 returns c =
-    ap (λ (n : ℕ). Whole (Svid n) 3) (c.svid_of.ensures ∙ simp get_or-drop) ∙ sym (svid_whole c.args.bytes.now c.requires.0 c.requires.1 c.if-bytes-lt-SVID_RECORD.false)
+    let svid : c.from_le_bytes.result ≡ svid_in (drop 1 c.args.bytes.now) = c.from_le_bytes.ensures ∙ simp get_or-drop in
+    ap (λ (n : ℕ). Whole (Svid n) 3) svid ∙ sym (svid_whole c.args.bytes.now c.requires.0 c.requires.1 c.if-bytes-lt-SVID_RECORD.false)

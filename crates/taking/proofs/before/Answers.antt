@@ -1,31 +1,18 @@
--- `before` meets its promise. The loop's invariant: i values and those before the first zero of what is left.
-use native.Mathlib.Omega.{arith}
-use Rattle.taking.proofs.Judging.{before_zero, before_next, before_done}
+-- `before` meets its promise: the first place of a zero, or else the end.
+use mathlib.Core.Path.{◌≡◌, ◌∙◌}
+use Prim.Native.Nat.{ℕ}
+use borrow.Author.Tests.{tests}
+use Rattle.std.specs.Prelude.{◌==◌}
+use Rattle.std.specs.List.{position}
+use Rattle.std.proofs.Common.{rules}
+use Rattle.std.proofs.lemmas.Iterator.{YieldsList-from_slice}
+use Rattle.std.proofs.lemmas.Iterator.Search.{position_from_yields_List}
+use Rattle.taking.proofs.Judging.{first_zero}
 use Rattle.taking.proofs.before.Goals as goal
 
-pub loop-i-init : goal.loop-i-init
-loop-i-init c = (omega arith, omega arith)
-
-pub offset_bounds-values-i : goal.offset_bounds-values-i
-offset_bounds-values-i c = omega arith
-
-pub bounds-values-i : goal.bounds-values-i
-bounds-values-i c = omega arith
-
-pub returns-then-values-i-eq0 : goal.returns-then-values-i-eq0
-returns-then-values-i-eq0 c = let v = c.args.values.now in
-    omega (arith, c.loop-i.invariant.1, before_zero v c.loop-i.i c.loop-i-test.true c.if-values-i-eq0.true)
-
-pub overflow_add-i : goal.overflow_add-i
-overflow_add-i c = omega arith
-
-pub loop-i-smaller : goal.loop-i-smaller
-loop-i-smaller c = omega arith
-
-pub loop-i-preserved : goal.loop-i-preserved
-loop-i-preserved c = let v = c.args.values.now in
-    (omega arith, omega (arith, c.loop-i.invariant.1, before_next v c.loop-i.i c.loop-i-test.true c.if-values-i-eq0.false))
-
 pub returns : goal.returns
-returns c = let v = c.args.values.now in
-    omega (arith, c.loop-i.invariant.1, before_done v c.loop-i.i c.loop-i-test.false)
+returns c =
+    let found : c.position.result ≡ position (λ (x : ℕ). x == 0) c.args.values.now =
+    position_from_yields_List (λ (x : ℕ). x == 0) _ _ c.position.result c.position.ensures.ran
+    (YieldsList-from_slice c.args.values.now cc) (λ x b q k. search (rules, tests)) in
+    c.unwrap_or.ensures ∙ first_zero c.args.values.now c.position.result found

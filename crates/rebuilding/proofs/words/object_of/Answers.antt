@@ -8,6 +8,6 @@ pub returns-then-i-extent : goal.returns-then-i-extent
 returns-then-i-extent c =
     c.object_at.ensures ∙ object_within c.args.extent (objects_of c.args.body.now) c.args.i c.if-i-extent.true
 
-pub returns : goal.returns
-returns c =
+pub returns-else-i-extent : goal.returns-else-i-extent
+returns-else-i-extent c =
     object_none c.args.extent (objects_of c.args.body.now) c.args.i c.if-i-extent.false

@@ -1,9 +1,0 @@
--- `with_mode` meets its promise.
-use mathlib.Core.Path.{refl}
-use Rattle.judging.specs.Noting.{walk_behind}
-use Rattle.judging.proofs.passing.with_mode.Goals as goal
-
-pub returns : goal.returns
-unfolding walk_behind
-returns c =
-    ((λ mode. refl), refl)

@@ -1,2 +1,0 @@
--- Laws on entering and exiting modes.
-mod Entering

@@ -1,2 +1,0 @@
--- Laws on the owner's calls.
-pub mod Asking

@@ -1,2 +1,0 @@
--- Laws on timers.
-pub mod Waiting

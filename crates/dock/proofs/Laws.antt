@@ -29,7 +29,7 @@ use Rattle.dock.specs.Step.{Step, stepped}
 use Rattle.dock.specs.declared.Accepted.{Accepted}
 use Rattle.std.specs.Prelude.{Result, Ok, Err}
 use Rattle.messages.specs.declared.refusal.Refusal.{Refusal}
-use Rattle.messages.proofs.Refusals.{numbered, same_number}
+use Rattle.messages.proofs.Numbers.{numbered, number_once}
 use Rattle.dock.proofs.Kept.{load_sound, message_sound, answer_sound, confirmed_sound, kept}
 
 -- a dock that meets 01's limits meets them after each call
@@ -84,7 +84,7 @@ stepped_once d (Ok a) (Ok b) e =
     λ i. Ok (record { length = size i; dock = next i })
 stepped_once d (Ok a) (Err q) e = absurd (numbered q (sym (ap (λ (s : Step). s.refusal) e)))
 stepped_once d (Err p) (Ok b) e = absurd (numbered p (ap (λ (s : Step). s.refusal) e))
-stepped_once d (Err p) (Err q) e = ap Err (same_number p q (ap (λ (s : Step). s.refusal) e))
+stepped_once d (Err p) (Err q) e = ap Err (number_once p q (ap (λ (s : Step). s.refusal) e))
 
 -- every page is a message that reading accepts, at the edition at which it is sent
 abbrev pub page_message : List ℕ → Message

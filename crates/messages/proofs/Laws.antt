@@ -25,7 +25,8 @@ use Rattle.messages.specs.Reading.{ReadAsMessage}
 use Rattle.messages.specs.declared.Head.{Head}
 use Rattle.messages.specs.Reading.{Reading}
 use Rattle.messages.specs.declared.edition.Edition.{Edition}
-use Rattle.messages.proofs.Refusals.{read_refused, outcome_refused, same_number}
+use Rattle.messages.proofs.Refusals.{read_refused, outcome_refused}
+use Rattle.messages.proofs.Numbers.{number_once}
 use Rattle.messages.proofs.RoundTrip.{read_bytes, bytes_read, accepted_shape, accepted_fits, message_bytes_lem}
 use Rattle.messages.proofs.Rule.{shape_allowed, shape_least, shape_count, pair_has}
 use Rattle.messages.proofs.Stores.{length_message, write_whole}
@@ -124,7 +125,7 @@ shown_once (Ok a) (Ok b) e =
     λ i. Ok (record { edition = edition i; head = head i; count = count i; objects = objects i })
 shown_once (Ok a) (Err q) e = absurd (let o : ◌≡◌ {A = ℕ} 0 1 = cc (ap (λ (s : Reading). s.outcome) e) in omega arith)
 shown_once (Err p) (Ok b) e = absurd (let o : ◌≡◌ {A = ℕ} 0 1 = cc (ap (λ (s : Reading). s.outcome) e) in omega arith)
-shown_once (Err p) (Err q) e = ap Err (same_number p q (cc (ap (λ (s : Reading). s.outcome) e)))
+shown_once (Err p) (Err q) e = ap Err (number_once p q (cc (ap (λ (s : Reading). s.outcome) e)))
 
 pub read_only : (b : List ℕ) (r r' : Result Received Refusal) →
     as_shown r ≡ shown (read_outcome b) → as_shown r' ≡ shown (read_outcome b) → r ≡ r'

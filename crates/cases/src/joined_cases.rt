@@ -1,43 +1,58 @@
 // Cases 11 and 12: both ends, joined.
-use crate::link::{Ends, confirm, exchange, fail, fresh, gather, reload};
+use crate::link::Ends;
 use crate::owner_turns::laptop_of;
-use crate::report::{case, with_catalogue, with_message, with_named, with_refusal};
+use crate::report::{add_catalogue, add_message, add_named, add_refused, begin_case};
 use crate::written::Message;
 use dock::Policy;
-use driving::fields::with_held;
-use driving::line::{print, with_decimal, with_text};
+use driving::fields::add_held;
 
-fn print_received(ends: Ends) {
-    let laptop = laptop_of(ends.owner);
-    let held = laptop.held;
-    let line = with_decimal(with_text(case(11), b" n="), ends.dock.count as u64);
-    let line = with_named(line, b", first page unconfirmed once:", laptop.pages as u64);
-    let line = with_held(with_text(line, b" pages received,"), held);
-    print(with_text(line, b" SVIDs held"));
+fn print_received(ends: &Ends) {
+    let laptop = laptop_of(&ends.owner);
+    let mut line = begin_case(11);
+    line.text(b" n=");
+    line.decimal(u64::from(ends.dock.count));
+    add_named(&mut line, b", first page unconfirmed once:", laptop.pages);
+    line.text(b" pages received,");
+    add_held(&mut line, laptop.held);
+    line.text(b" SVIDs held");
+    line.print_line();
 }
 
 pub fn print_unconfirmed() {
-    let opened = confirm(exchange(fresh(13), Policy::Give));
-    let unconfirmed = fail(exchange(opened, Policy::Give));
-    print_received(gather(unconfirmed));
+    let mut ends = Ends::new(13);
+    ends.confirmed_exchange(Policy::Give);
+    ends.exchange(Policy::Give);
+    ends.fail();
+    ends.gather();
+    print_received(&ends);
 }
 
-fn print_held(ends: Ends) {
-    print(with_catalogue(case(12), ends.owner));
+fn print_held(ends: &Ends) {
+    let mut line = begin_case(12);
+    add_catalogue(&mut line, &ends.owner);
+    line.print_line();
 }
 
-fn print_refused(page: Message, ends: Ends) {
-    let line = with_text(with_message(case(12), page), b", then");
-    print(with_refusal(with_message(line, ends.answer), ends.refusal));
+fn print_refused(page: Message, ends: &Ends) {
+    let mut line = begin_case(12);
+    add_message(&mut line, page);
+    line.text(b", then");
+    add_message(&mut line, ends.answer);
+    add_refused(&mut line, ends.outcome);
+    line.print_line();
 }
 
 // The old catalogue has one SVID; the dock is then loaded with twelve.
 pub fn print_old_held() {
-    let old = gather(confirm(exchange(fresh(1), Policy::Give)));
-    print_held(old);
-    let opened = confirm(exchange(reload(old, 12), Policy::Give));
-    let gathered = confirm(exchange(opened, Policy::Give));
-    let voided = confirm(exchange(gathered, Policy::Nak));
-    print_refused(gathered.answer, voided);
-    print_held(voided);
+    let mut ends = Ends::new(1);
+    ends.confirmed_exchange(Policy::Give);
+    ends.gather();
+    print_held(&ends);
+    ends.reload(12);
+    ends.confirmed_exchange(Policy::Give);
+    ends.confirmed_exchange(Policy::Give);
+    let page = ends.answer;
+    ends.confirmed_exchange(Policy::Nak);
+    print_refused(page, &ends);
+    print_held(&ends);
 }

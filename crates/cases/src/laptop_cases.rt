@@ -1,77 +1,66 @@
 // Case 10 and Case L: what the laptop does with answers that are given to it, all at 2.0.
 use crate::owner_turns::{Turn, hear, laptop_of, next};
-use crate::report::{case, with_catalogue, with_message, with_named, with_refusal};
+use crate::report::{add_catalogue, add_message, add_named, add_refused, begin_case};
 use crate::responder::{IDENTITY_OBJECTS, MODE};
-use crate::written::{Message, write};
-use driving::fields::{with_held, with_nothing, with_number};
-use driving::line::{Line, empty, print, with_text};
-use driving::owning::{Owner, fresh};
-use messages::{ACK, Edition, IDENTITY, MODES, PD_SID, SVIDS};
+use crate::written::Message;
+use driving::fields::{add_held, add_outcome};
+use driving::line::Line;
+use driving::owning::Owner;
+use messages::{ACK, IDENTITY, MODES, PD_SID, SVIDS};
 
-// The SVID of Case L.
+// The SVID of Case L, and a page of it alone.
 const SVID: u16 = 0xFF01;
 
-fn identity() -> Message {
-    let objects = IDENTITY_OBJECTS;
-    write(Edition::TwoZero, PD_SID, IDENTITY, ACK, &objects)
-}
+const PAGE: [u32; 1] = [0xFF010000];
 
-// Identity is answered, and SVIDs asked.
-fn asking_svids() -> Owner {
-    let opened = hear(next(fresh(0)).owner, identity()).owner;
-    next(opened).owner
+fn identity() -> Message {
+    Message::write(PD_SID, IDENTITY, ACK, &IDENTITY_OBJECTS)
 }
 
 pub fn print_bad_page() {
-    let page = write(
-        Edition::TwoZero,
-        PD_SID,
-        SVIDS,
-        ACK,
-        &[0x00010000, 0x00020000],
-    );
-    let heard = hear(asking_svids(), page);
-    print(with_refusal(with_message(case(10), page), heard.refusal));
+    let page = Message::write(PD_SID, SVIDS, ACK, &[0x00010000, 0x00020000]);
+    let mut owner = Owner::new(0);
+    next(&mut owner);
+    hear(&mut owner, identity());
+    next(&mut owner);
+    let heard = hear(&mut owner, page);
+    let mut line = begin_case(10);
+    add_message(&mut line, page);
+    add_refused(&mut line, heard.outcome);
+    line.print_line();
 }
 
-fn with_sent(line: Line, request: Message) -> Line {
-    if request.length == 0 {
-        return with_nothing(line);
-    }
-    with_message(line, request)
-}
-
-// The watcher's line of an event; the owner after it is handed on.
-fn shown(number: u64, turn: Turn) -> Owner {
-    let owner = turn.owner;
+// The watcher's line of an event.
+fn print_turn(number: u8, turn: Turn, owner: &Owner) {
     let laptop = laptop_of(owner);
-    let held = laptop.held;
-    let line = with_named(empty(), b"case L:", number);
-    let line = with_sent(with_number(line, turn.refusal as u64), turn.request);
-    print(with_held(with_number(line, laptop.pages as u64), held));
-    owner
+    let mut line = Line::new();
+    add_named(&mut line, b"case L:", number);
+    add_outcome(&mut line, turn.outcome);
+    if turn.request.bytes().is_empty() {
+        line.nothing();
+    } else {
+        add_message(&mut line, turn.request);
+    }
+    line.field(laptop.pages);
+    add_held(&mut line, laptop.held);
+    line.print_line();
 }
 
-fn page() -> Message {
-    write(
-        Edition::TwoZero,
-        PD_SID,
-        SVIDS,
-        ACK,
-        &[(SVID as u32) * 65536],
-    )
-}
-
-fn modes() -> Message {
-    write(Edition::TwoZero, SVID, MODES, ACK, &[MODE])
+// The laptop asks what it needs next, and hears the answer: the events of these numbers.
+fn print_exchange(asking: u8, hearing: u8, answer: Message, owner: &mut Owner) {
+    let asked = next(owner);
+    print_turn(asking, asked, owner);
+    let heard = hear(owner, answer);
+    print_turn(hearing, heard, owner);
 }
 
 pub fn print_case_l() {
-    let owner = shown(1, next(fresh(0)));
-    let owner = shown(2, hear(owner, identity()));
-    let owner = shown(3, next(owner));
-    let owner = shown(4, hear(owner, page()));
-    let owner = shown(5, next(owner));
-    let owner = shown(6, hear(owner, modes()));
-    print(with_catalogue(with_text(empty(), b"case L:"), owner));
+    let mut owner = Owner::new(0);
+    print_exchange(1, 2, identity(), &mut owner);
+    print_exchange(3, 4, Message::write(PD_SID, SVIDS, ACK, &PAGE), &mut owner);
+    print_exchange(5, 6, Message::write(SVID, MODES, ACK, &[MODE]), &mut owner);
+    let mut line = Line::new();
+    line.text(b"case L:");
+    add_catalogue(&mut line, &owner);
+    line.print_line();
 }

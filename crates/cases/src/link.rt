@@ -1,77 +1,69 @@
 // Both ends, joined by hand: what one sends is given to the other.
 use crate::owner_turns::{hear, laptop_of, next};
-use crate::responder::{load, reply};
-use crate::written::{Message, nothing};
+use crate::responder::{after, load, reply};
+use crate::written::Message;
 use dock::{Dock, Policy};
-use driving::owning;
 use driving::owning::Owner;
 use laptop::Candidate;
+use messages::Refusal;
 
 // A proved loop has to end. No case has so many requests.
 const BUDGET: usize = 100;
 
-// The last answer of the dock and its refusal by the laptop stand beside the two ends.
+// The last answer of the dock and what it led to at the laptop stand beside the two ends.
 #[derive(Clone, Copy)]
 pub struct Ends {
     pub owner: Owner,
     pub dock: Dock,
     pub answer: Message,
-    pub refusal: u8,
+    pub outcome: Result<(), Refusal>,
 }
 
-// A laptop without a catalogue, and a dock that has so many SVIDs.
-pub fn fresh(count: usize) -> Ends {
-    Ends {
-        owner: owning::fresh(0),
-        dock: load(dock::fresh(), count),
-        answer: nothing(),
-        refusal: 0,
-    }
-}
-
-pub fn reload(ends: Ends, count: usize) -> Ends {
-    let dock = load(ends.dock, count);
-    Ends { dock, ..ends }
-}
-
-// The laptop asks what it needs next, and hears the dock's answer, which the dock is still sending.
-pub fn exchange(ends: Ends, policy: Policy) -> Ends {
-    let asked = next(ends.owner);
-    let replied = reply(ends.dock, policy, asked.request);
-    let answer = replied.answer;
-    let dock = replied.dock;
-    let heard = hear(asked.owner, answer);
-    let owner = heard.owner;
-    Ends {
-        owner,
-        dock,
-        answer,
-        refusal: heard.refusal,
-    }
-}
-
-pub fn confirm(ends: Ends) -> Ends {
-    let dock = confirming::sent(ends.dock).dock;
-    Ends { dock, ..ends }
-}
-
-pub fn fail(ends: Ends) -> Ends {
-    let dock = confirming::failed(ends.dock).dock;
-    Ends { dock, ..ends }
-}
-
-// Confirmed exchanges as long as there is a candidate.
-pub fn gather(ends: Ends) -> Ends {
-    let mut ends = ends;
-    let mut exchanges = 0;
-    while exchanges < BUDGET {
-        let laptop = laptop_of(ends.owner);
-        let candidate = laptop.candidate;
-        if let Candidate::Absent = candidate {
-            return ends;
+impl Ends {
+    // A laptop without a catalogue, and a dock that has so many SVIDs.
+    pub fn new(count: usize) -> Ends {
+        let mut dock = dock::fresh();
+        load(&mut dock, count);
+        Ends {
+            owner: Owner::new(0),
+            dock,
+            answer: Message::nothing(),
+            outcome: Ok(()),
         }
-        ends = confirm(exchange(ends, Policy::Give));
-        exchanges += 1;
     }
-    ends
+
+    pub fn reload(&mut self, count: usize) {
+        load(&mut self.dock, count);
+    }
+
+    // The laptop asks what it needs next, and hears the dock's answer, which the dock is still sending.
+    pub fn exchange(&mut self, policy: Policy) {
+        let asked = next(&mut self.owner);
+        let answer = reply(&mut self.dock, policy, asked.request);
+        self.outcome = hear(&mut self.owner, answer).outcome;
+        self.answer = answer;
+    }
+
+    pub fn confirm(&mut self) {
+        self.dock = after(self.dock, confirming::sent(self.dock));
+    }
+
+    pub fn fail(&mut self) {
+        self.dock = after(self.dock, confirming::failed(self.dock));
+    }
+
+    pub fn confirmed_exchange(&mut self, policy: Policy) {
+        self.exchange(policy);
+        self.confirm();
+    }
+
+    // Confirmed exchanges as long as there is a candidate.
+    pub fn gather(&mut self) {
+        for _ in 0..BUDGET {
+            if laptop_of(&self.owner).candidate == Candidate::Absent {
+                break;
+            }
+            self.confirmed_exchange(Policy::Give);
+        }
+    }
 }

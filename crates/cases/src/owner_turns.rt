@@ -1,47 +1,40 @@
 // The turns of the laptop end's owner, all on the partner's side: it asks what it needs next, and hears an answer.
-use crate::written::{Message, nothing};
-use driving::owning;
-use driving::owning::Owner;
+use crate::written::{LONGEST, Message};
+use driving::owning::{Owner, outcome_of};
 use events::Call;
 use laptop::Laptop;
-use port::{Side, seen};
-use streams::input::first_bytes;
+use messages::Refusal;
+use port::Side;
 
-// What a call gave: the refusal number, the request to send, and the owner after it.
+// What a call gave, and the request to send.
 #[derive(Clone, Copy)]
 pub struct Turn {
-    pub refusal: u8,
+    pub outcome: Result<(), Refusal>,
     pub request: Message,
-    pub owner: Owner,
 }
 
 // The laptop of document 01.
-pub fn laptop_of(owner: Owner) -> Laptop {
-    seen(Side::Partner, owner.port)
+pub fn laptop_of(owner: &Owner) -> Laptop {
+    owner.laptop(Side::Partner)
 }
 
-pub fn next(owner: Owner) -> Turn {
-    let mut bytes = nothing().bytes;
-    let turn = owning::make(owner, Side::Partner, Call::Next, &mut bytes);
-    let step = turn.step;
-    let owner = turn.owner;
-    Turn {
-        refusal: step.refusal,
-        request: Message {
-            bytes,
-            length: step.length as usize,
+pub fn next(owner: &mut Owner) -> Turn {
+    let mut bytes = [0; LONGEST];
+    match owner.make(Side::Partner, Call::Next, &mut bytes) {
+        Ok(accepted) => Turn {
+            outcome: Ok(()),
+            request: Message::new(bytes, usize::from(accepted.length)),
         },
-        owner,
+        Err(refused) => Turn {
+            outcome: Err(refused.refusal),
+            request: Message::nothing(),
+        },
     }
 }
 
-pub fn hear(owner: Owner, message: Message) -> Turn {
-    let bytes = message.bytes;
-    let turn = owning::hear(owner, Side::Partner, first_bytes(&bytes, message.length));
-    let owner = turn.owner;
+pub fn hear(owner: &mut Owner, message: Message) -> Turn {
     Turn {
-        refusal: turn.step.refusal,
-        request: nothing(),
-        owner,
+        outcome: outcome_of(owner.hear(Side::Partner, message.bytes())),
+        request: Message::nothing(),
     }
 }

@@ -1,27 +1,25 @@
 // Case 9: what a header reads as.
-use crate::report::{case, with_named, with_objects, with_refusal};
-use driving::line::{Line, print, with_half, with_text};
-use messages::{Head, ReadAs, bytes_of};
+use crate::report::{add_named, add_objects, add_refused, begin_case};
+use driving::line::Line;
+use messages::Head;
 
 const HEADER: u32 = 0xFF01A104;
 
-fn with_head(line: Line, head: Head) -> Line {
-    let line = with_half(with_text(line, b": SVID "), head.svid);
-    let line = with_named(line, b", command", head.command as u64);
-    let line = with_named(line, b", type", head.kind as u64);
-    with_named(line, b", position", head.position as u64)
-}
-
-fn with_outcome(line: Line, outcome: ReadAs) -> Line {
-    match outcome {
-        ReadAs::Message(_, head, _) => with_head(line, head),
-        ReadAs::Refused(refusal) => with_refusal(line, refusal),
-    }
+fn add_head(line: &mut Line, head: Head) {
+    line.text(b": SVID ");
+    line.half(head.svid);
+    add_named(line, b", command", head.command);
+    add_named(line, b", type", head.kind);
+    add_named(line, b", position", head.position);
 }
 
 pub fn print_reading() {
-    let bytes = bytes_of(HEADER);
-    let outcome = reading::read(&bytes).outcome;
-    let line = with_objects(case(9), &bytes);
-    print(with_outcome(line, outcome));
+    let bytes = HEADER.to_le_bytes();
+    let mut line = begin_case(9);
+    add_objects(&mut line, &bytes);
+    match reading::read(&bytes) {
+        Ok(received) => add_head(&mut line, received.head),
+        Err(refusal) => add_refused(&mut line, Err(refusal)),
+    }
+    line.print_line();
 }

@@ -1,63 +1,53 @@
 // The parts of a case's lines.
 use crate::owner_turns::laptop_of;
 use crate::written::Message;
-use driving::fields::{with_held, with_number};
-use driving::line::{Line, empty, with_bytes, with_half, with_text};
-use driving::owning::{Owner, write_held};
+use driving::fields::{add_held, add_outcome};
+use driving::line::Line;
+use driving::owning::Owner;
+use messages::Refusal;
 use port::Side;
-use streams::input::{first_bytes, half_of};
+use streams::input::first_bytes;
 
 // 01's bound on the bytes of a catalogue.
 const CATALOGUE: usize = 2402;
 
-// The bytes of an object.
-const OBJECT: usize = 4;
-
 // A number with its name before it.
-pub fn with_named(line: Line, name: &[u8], number: u64) -> Line {
-    with_number(with_text(line, name), number)
+pub fn add_named<T: Into<u64>>(line: &mut Line, name: &[u8], number: T) {
+    line.text(name);
+    line.field(number);
 }
 
-// The number of a case from 1 to 12.
-pub fn case(number: u64) -> Line {
-    with_text(with_named(empty(), b"case", number), b":")
-}
-
-// The first object of the bytes as a number, with a space before it.
-fn with_object(line: Line, bytes: &[u8]) -> Line {
-    if bytes.len() < OBJECT {
-        return line;
-    }
-    let line = with_half(with_text(line, b" "), half_of(bytes[2], bytes[3]));
-    with_half(line, half_of(bytes[0], bytes[1]))
-}
-
-pub fn with_objects(begun: Line, bytes: &[u8]) -> Line {
-    let mut line = begun;
-    let mut rest = bytes;
-    while OBJECT <= rest.len() {
-        line = with_object(line, rest);
-        rest = &rest[OBJECT..];
-    }
+// A line starts with the number of its case, from 1 to 12.
+pub fn begin_case(number: u8) -> Line {
+    let mut line = Line::new();
+    add_named(&mut line, b"case", number);
+    line.byte(b':');
     line
 }
 
-pub fn with_message(line: Line, message: Message) -> Line {
-    let bytes = message.bytes;
-    with_objects(line, first_bytes(&bytes, message.length))
+// The objects of a message as numbers.
+pub fn add_objects(line: &mut Line, bytes: &[u8]) {
+    let (objects, _) = bytes.as_chunks();
+    for object in objects {
+        line.spaced_word(u32::from_le_bytes(*object));
+    }
 }
 
-pub fn with_refusal(line: Line, refusal: u8) -> Line {
-    with_named(line, b": refused", refusal as u64)
+pub fn add_message(line: &mut Line, message: Message) {
+    add_objects(line, message.bytes());
 }
 
-pub fn with_catalogue(line: Line, owner: Owner) -> Line {
-    let laptop = laptop_of(owner);
-    let held = laptop.held;
-    let mut buffer = [0u8; CATALOGUE];
-    let written = write_held(owner, Side::Partner, &mut buffer);
-    let line = with_held(with_text(line, b" held"), held);
-    let line = with_named(line, b", catalogue of", written.length as u64);
-    let line = with_text(line, b" bytes ");
-    with_bytes(line, first_bytes(&buffer, written.length as usize))
+pub fn add_refused(line: &mut Line, outcome: Result<(), Refusal>) {
+    line.text(b": refused");
+    add_outcome(line, outcome);
+}
+
+pub fn add_catalogue(line: &mut Line, owner: &Owner) {
+    let mut buffer = [0; CATALOGUE];
+    let length = owner.write_held(Side::Partner, &mut buffer).unwrap_or(0);
+    line.text(b" held");
+    add_held(line, laptop_of(owner).held);
+    add_named(line, b", catalogue of", length);
+    line.text(b" bytes ");
+    line.bytes(first_bytes(&buffer, usize::from(length)));
 }

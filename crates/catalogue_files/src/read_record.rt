@@ -1,64 +1,48 @@
 // The record at an offset of a file.
-use crate::file::{LONGEST, MOST_BYTES, append_number, at_most, begin_line};
-use records::{Found, Record, fault_of, record_from};
-use std::num::wrapping_add_usize;
-use streams::finish::Turn;
-use streams::input::{fill, half_of};
-use text::line::{append, append_field, append_half, append_spaced_word, end_line};
+use crate::file::{Line, MOST_BYTES, add_numbers, at_most, begin_line};
+use messages::Refusal;
+use records::{Missing, Record, Whole, record_from};
+use streams::finish::Stop;
+use streams::input::{fill, read_half};
 
-// The length of the part before the file: the offset and the file's length, two bytes each.
-const FIXED: usize = 4;
-
-fn append_record(line: &mut [u8], at: usize, record: Record) -> usize {
+fn add_record(line: &mut Line, record: Record) {
     match record {
         Record::Identity(objects) => {
-            let at = append(line, at, b" identity");
-            append_field(line, at, objects)
+            line.text(b" identity");
+            line.field(objects);
         }
         Record::Svid(svid) => {
-            let at = append(line, at, b" svid ");
-            append_half(line, at, svid)
+            line.text(b" svid ");
+            line.half(svid);
         }
         Record::Mode(word) => {
-            let at = append(line, at, b" mode");
-            append_spaced_word(line, at, word)
+            line.text(b" mode");
+            line.spaced_word(word);
         }
-        Record::End => append(line, at, b" end"),
+        Record::End => line.text(b" end"),
     }
 }
 
 // A whole record has the offset behind it. It is no long one, and a sum that may wrap spares the proof of that.
-fn append_found(line: &mut [u8], at: usize, found: Found, offset: u16) -> usize {
+fn add_found(line: &mut Line, found: Result<Whole, Missing>, offset: usize) {
     match found {
-        Found::Whole(record, length) => {
-            let at = append_record(line, at, record);
-            append_number(line, at, wrapping_add_usize(offset as usize, length))
+        Ok(whole) => {
+            add_record(line, whole.record);
+            add_numbers(line, &[offset.wrapping_add(whole.length)]);
         }
-        Found::Nothing => append(line, at, b" nothing"),
-        _ => append_field(line, at, fault_of(found)),
+        Err(Missing::Nothing) => line.text(b" nothing"),
+        Err(missing) => line.field(u8::from(Refusal::from(missing))),
     }
 }
 
-fn print_answer(number: u64, bytes: &[u8], offset: u16) {
-    let mut line = [0u8; LONGEST];
-    let at = begin_line(&mut line, number, b" record");
-    let found = record_from(bytes, offset as usize);
-    let at = append_found(&mut line, at, found, offset);
-    end_line(&mut line, at);
-}
-
-// Reads the file and prints its line.
-pub fn answer(number: u64) -> Turn {
-    let mut fixed = [0u8; FIXED];
-    if !fill(&mut fixed) {
-        return Turn::Cut;
-    }
-    let offset = half_of(fixed[0], fixed[1]);
+// Reads the file and prints its line. Before the file stand the offset and the file's length.
+pub fn answer(number: u64) -> Result<(), Stop> {
+    let offset = usize::from(read_half()?);
     let mut buffer = [0u8; MOST_BYTES];
-    let bytes = &mut buffer[0..at_most(fixed[2], fixed[3], MOST_BYTES)];
-    if !fill(bytes) {
-        return Turn::Cut;
-    }
-    print_answer(number, bytes, offset);
-    Turn::Answered
+    let bytes = &mut buffer[..at_most(read_half()?, MOST_BYTES)];
+    fill(bytes)?;
+    let mut line = begin_line(number, b" record");
+    add_found(&mut line, record_from(bytes, offset), offset);
+    line.print_line();
+    Ok(())
 }

@@ -1,5 +1,5 @@
 -- What the laptop's calls and catalogue writing hand over.
-use mathlib.Core.Path.{◌≡◌, ap, subst, ◌∙◌}
+use mathlib.Core.Path.{◌≡◌, ap, sym, subst, ◌∙◌}
 use mathlib.Core.Bool.{Bool, true, false}
 use mathlib.Core.List.{List}
 use Prim.Native.Nat.{ℕ}
@@ -18,7 +18,7 @@ use Rattle.port.specs.Calls.{Owners, concerning}
 use Rattle.port.specs.Sides.{own_of, seen, stepped_on}
 use Rattle.port.specs.declared.Port.{Port}
 use Rattle.port.specs.declared.Side.{Side}
-use Rattle.port.specs.declared.Step.{Step}
+use Rattle.port.specs.Step.{Step}
 use Rattle.controller.specs.CatalogueCall.{CatalogueCall}
 use Rattle.controller.specs.LaptopCalls.{LaptopStep, LaptopSendsNothing, LaptopSends, HeardOn, LaptopHears}
 use Rattle.controller.specs.Port.{side_number, port_from, port_numbers, numbers_after}
@@ -40,16 +40,11 @@ module _ (before : List ℕ) (p : Port) {t : Bool} (same : t ≡ same_list (port
 pub carried : (P : Side → Port → Type 0) {side side' : Side} {p p' : Port} → side ≡ side' → p ≡ p' → P side p → P side' p'
 carried P {side' = side'} {p = p} e f h = subst (P side') f (subst (λ (s : Side). P s p) e h)
 
--- the state's numbers put, and what is handed over, are a step handed over
-module _ {step : Step} {number : ℕ} {state handed : Lent (List ℕ)} (put : left state ≡ numbers_after (lent state) step.port)
-    (over : (number ≡ step.refusal) × (left handed ≡ accepted number (handed_numbers step) (lent handed))) where
+-- a step that is handed over, by the call that gave it
+module _ {step : Step} {number : ℕ} {state handed : Lent (List ℕ)}
+    (over : (number ≡ step.refusal) × (left state ≡ numbers_after (lent state) step.port) × (left handed ≡ accepted number (handed_numbers step) (lent handed))) where
   step_in : (step' : Step) → step ≡ step' → LaptopStep step' number state handed
-  step_in step' e =
-      record {
-        number_is = over.0 ∙ ap (λ (s : Step). s.refusal) e;
-        state_is = put ∙ ap (λ (s : Step). numbers_after (lent state) s.port) e;
-        handed_is = over.1 ∙ ap (λ (s : Step). accepted number (handed_numbers s) (lent handed)) e;
-      }
+  step_in step' e = rw (sym e) (record { number_is = over.0; state_is = over.1; handed_is = over.2 })
 
   pub sends_nothing_in : {decide : Laptop → Decision} {p : Port} → p ≡ port_from (lent state) → step ≡ concerning decide p →
       LaptopSendsNothing decide number state handed
@@ -70,11 +65,6 @@ module _ {step : Step} {number : ℕ} {state handed : Lent (List ℕ)} (put : le
             step_in _ (carried (λ (x : Side) (q : Port). step ≡ stepped_on x q one) e f s ∙ ap (stepped_on side' (port_from (lent state))) h.0);
         memory_is = h.1;
       }
-
--- what is handed over names the side
-pub handed_as : (step : Step) {side : ℕ} {numbers : List ℕ} → side ≡ side_number step.side → numbers ≡ told_numbers step.length step.told side →
-    numbers ≡ handed_numbers step
-handed_as step e f = f ∙ ap (told_numbers step.length step.told) e
 
 -- the catalogue's bytes
 module _ {held : HeldCatalogue} {run : List ℕ} {out : Lent (List ℕ)} {bytes : Lent ℕ} {result : Bytes}

@@ -4,7 +4,7 @@ use mathlib.Core.List.{List}
 use Prim.Native.Nat.{ℕ}
 use denote.Ref.{MutBor}
 use Rattle.dock.specs.Step.{Step}
-use Rattle.port.specs.declared.Step.{Step as PortStep}
+use Rattle.port.specs.Step.{Step as PortStep}
 use Rattle.controller.specs.DockCalls.{DockStep}
 use Rattle.controller.specs.LaptopCalls.{LaptopStep}
 use Rattle.laws.specs.Lent.{Lent, lent, left, leaving, accepted}

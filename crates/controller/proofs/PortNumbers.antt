@@ -24,54 +24,12 @@ use Rattle.port.specs.declared.Own.{Own}
 use Rattle.port.specs.declared.Port.{Port}
 use Rattle.port.specs.declared.Side.{Side}
 use Rattle.port.specs.declared.Side.TheVariants.{Partner, Cable}
-use Rattle.port.specs.declared.Wait.{Wait}
-use Rattle.port.specs.declared.Wait.TheVariants.{Nothing, Answer}
+use Rattle.port.specs.Sides.{Wait}
 use Rattle.controller.specs.Port.{low_byte, request_from, size_from, wait_from, candidate_from, held_from, wait_in, own_from, port_from, side_from, side_number, edition_from, wait_numbers, candidate_number, held_numbers, own_numbers, port_numbers, numbers_after}
 
-pub request_is : (svid a b command position : ℕ) → a ≡ low_byte command → b ≡ low_byte position →
-    ◌≡◌ {A = Request} (record { svid = svid; command = a; position = b }) (request_from svid command position)
-request_is svid a b command position ea eb = rw (ea, eb)
-
-pub size_is : (a b extent count : ℕ) → a ≡ low_byte extent → b ≡ low_byte count →
-    ◌≡◌ {A = Size} (record { extent = a; count = b }) (size_from extent count)
-size_is a b extent count ea eb = rw (ea, eb)
-
-pub wait_in_lem : (s : List ℕ) (request : Request) {wait : Wait} → wait ≡ wait_from (get_or s 0 0) request →
-    request ≡ request_from (get_or s 1 0) (get_or s 2 0) (get_or s 3 0) → wait ≡ wait_in s
-unfolding wait_in
-wait_in_lem s request e f = rw (e, f)
-
-pub own_is : (s : List ℕ) (at : ℕ) {size gathered : Size} {candidate : Candidate} {stored pages : ℕ} {held : Option Size} {edition : Edition} →
-    candidate ≡ candidate_from (get_or s at 0) → gathered ≡ size_from (get_or s (at + 1) 0) (get_or s (at + 2) 0) → stored ≡ low_byte (get_or s (at + 3) 0) →
-    pages ≡ low_byte (get_or s (at + 4) 0) → held ≡ held_from (get_or s (at + 5) 0) size → size ≡ size_from (get_or s (at + 6) 0) (get_or s (at + 7) 0) →
-    edition ≡ edition_from (get_or s (at + 8) 0) →
-    ◌≡◌ {A = Own} (record { candidate = candidate; gathered = gathered; stored = stored; pages = pages; held = held; edition = edition }) (own_from s at)
-unfolding own_from
-own_is s at ec eg es ep eh ez ed = rw (ec, eg, es, ep, eh, ez, ed)
-
-pub port_is : (s : List ℕ) {wait : Wait} {partner cable : Own} → wait ≡ wait_in s → partner ≡ own_from s 4 → cable ≡ own_from s 13 →
-    ◌≡◌ {A = Port} (record { wait = wait; partner = partner; cable = cable }) (port_from s)
-unfolding port_from
-port_is s ew ep ec = rw (ew, ep, ec)
-
-pub answer_numbers : {wait : Wait} {side : Side} {r : Request} (number : ℕ) → wait ≡ Answer side r → number ≡ side_number side →
-    ((number + 1) ∷ r.svid ∷ r.command ∷ r.position ∷ []) ≡ wait_numbers wait
-answer_numbers number e f = rw (e, f)
-
--- what is awaited stands in four numbers, whatever it is, and what is held in three, with one behind them
-wait_four : (w : Wait) →
-    (get_or (wait_numbers w) 0 0 ∷ get_or (wait_numbers w) 1 0 ∷ get_or (wait_numbers w) 2 0 ∷ get_or (wait_numbers w) 3 0 ∷ []) ≡ wait_numbers w
-wait_four Nothing = refl
-wait_four (Answer side r) = refl
-
-held_three : (h : Option Size) (n : ℕ) →
-    (get_or (held_numbers h) 0 0 ∷ get_or (held_numbers h) 1 0 ∷ get_or (held_numbers h) 2 0 ∷ n ∷ []) ≡ held_numbers h ++ (n ∷ [])
-held_three None n = refl
-held_three (Some size) n = refl
-
 pub wait_length : (w : Wait) → length (wait_numbers w) ≡ 4
-wait_length Nothing = refl
-wait_length (Answer side r) = refl
+wait_length None = refl
+wait_length (Some (side, r)) = refl
 
 pub held_length : (h : Option Size) → length (held_numbers h) ≡ 3
 held_length None = refl
@@ -82,17 +40,15 @@ unfolding own_numbers
 own_length own = rw length-append (omega (arith, held_length own.held))
 
 -- the stores, one after the other
-pub wait_stored : (s : List ℕ) (w : Wait) {numbers : List ℕ} → numbers ≡ wait_numbers w →
-    set (set (set (set s 0 (get_or numbers 0 0)) 1 (get_or numbers 1 0)) 2 (get_or numbers 2 0)) 3 (get_or numbers 3 0) ≡ sets s 0 (wait_numbers w)
-wait_stored s w e = rw e (ap (sets s 0) (wait_four w))
-
-pub own_stored : (s : List ℕ) (at : ℕ) (own : Own) {candidate edition : ℕ} {held : List ℕ} → candidate ≡ candidate_number own.candidate →
+pub own_stored : (s : List ℕ) (at : ℕ) (own : Own) {candidate edition : ℕ} {held whole : List ℕ} → candidate ≡ candidate_number own.candidate →
     held ≡ held_numbers own.held → edition ≡ edition_number own.edition →
-    set (set (set (set (set (set (set (set (set s at candidate) (at + 1) own.gathered.extent) (at + 2) own.gathered.count) (at + 3) own.stored)
-    (at + 4) own.pages) (at + 5) (get_or held 0 0)) (at + 6) (get_or held 1 0)) (at + 7) (get_or held 2 0)) (at + 8) edition ≡ sets s at (own_numbers own)
+    whole ≡ sets (set (set (set (set (set s at candidate) (at + 1) own.gathered.extent) (at + 2) own.gathered.count) (at + 3) own.stored) (at + 4) own.pages) (at + 5) held →
+    set whole (at + 8) edition ≡ sets s at (own_numbers own)
 unfolding own_numbers
-own_stored s at own e f g =
-    rw (e, f, g, add-one, add-two, add-three, add-four, add_five, add_six, add_seven, add_eight) (ap (λ (held : List ℕ). sets s at (candidate_number own.candidate ∷ own.gathered.extent ∷ own.gathered.count ∷ own.stored ∷ own.pages ∷ held)) (held_three own.held (edition_number own.edition)))
+own_stored s at own {edition = edition} {held} e f g h =
+    let eight : at + 5 + length held ≡ at + 8 = rw f (omega (arith, held_length own.held)) in
+    rw h (ap (λ (k : ℕ). set (sets _ (at + 5) held) k edition) (sym eight) ∙ sym (sets_append _ (at + 5) held (edition ∷ []))) ∙
+    rw (e, f, g, add-one, add-two, add-three, add-four, add_five)
 
 pub port_stored : (s : List ℕ) (p : Port) → length s ≡ 22 → {first second third : List ℕ} → first ≡ sets s 0 (wait_numbers p.wait) →
     second ≡ sets first 4 (own_numbers p.partner) → third ≡ sets second 13 (own_numbers p.cable) → third ≡ port_numbers p
@@ -117,8 +73,8 @@ abbrev pub SizeFits : Size → Type 0
 SizeFits size = (size.extent < 256) × (size.count < 256)
 
 abbrev pub WaitFits : Wait → Type 0
-WaitFits Nothing = Unit
-WaitFits (Answer side r) = (r.command < 256) × (r.position < 256)
+WaitFits None = Unit
+WaitFits (Some (side, r)) = (r.command < 256) × (r.position < 256)
 
 abbrev pub HeldFits : Option Size → Type 0
 HeldFits None = Unit
@@ -157,9 +113,9 @@ candidate_again Done = refl
 
 wait_again : (w : Wait) (rest : List ℕ) → WaitFits w → wait_in (wait_numbers w ++ rest) ≡ w
 unfolding wait_in
-wait_again Nothing rest h = refl
-wait_again (Answer Partner r) rest h = rw (byte_again r.command h.0, byte_again r.position h.1)
-wait_again (Answer Cable r) rest h = rw (byte_again r.command h.0, byte_again r.position h.1)
+wait_again None rest h = refl
+wait_again (Some (Partner, r)) rest h = rw (byte_again r.command h.0, byte_again r.position h.1)
+wait_again (Some (Cable, r)) rest h = rw (byte_again r.command h.0, byte_again r.position h.1)
 
 -- a side's numbers behind others
 number_behind : (before l : List ℕ) (at k : ℕ) → length before ≡ at → get_or (before ++ l) (at + k) 0 ≡ get_or l k 0
@@ -215,7 +171,7 @@ low_fits : (n : ℕ) → low_byte n < 256
 low_fits n = omega arith
 
 wait_from_fits : (t u : Bool) (svid command position : ℕ) →
-    WaitFits (cond t (Answer Partner (request_from svid command position)) (cond u (Answer Cable (request_from svid command position)) Nothing))
+    WaitFits (cond t (Some (Partner, request_from svid command position)) (cond u (Some (Cable, request_from svid command position)) None))
 wait_from_fits true u svid command position = (low_fits command, low_fits position)
 wait_from_fits false true svid command position = (low_fits command, low_fits position)
 wait_from_fits false false svid command position = tt

@@ -17,12 +17,11 @@ use Rattle.laptop_laws.specs.Refusing.{left_by, RefusedAs}
 use Rattle.laptop_laws.proofs.Leaves.{buffer_left}
 use Rattle.laptop_laws.proofs.Leaves.{refusal_leaves as laptop_refusal_leaves}
 use Rattle.port.specs.Calls.{is_waiting, owners_refusal}
-use Rattle.port.specs.Sides.{wait_seen, wait_put, seen, put_back, stepped_on}
+use Rattle.port.specs.Sides.{Wait, wait_seen, wait_put, seen, put_back, stepped_on}
 use Rattle.port.specs.declared.Port.{Port}
 use Rattle.port.specs.declared.Side.{Side}
 use Rattle.port.specs.declared.Side.TheVariants.{Partner, Cable}
-use Rattle.port.specs.declared.Wait.{Wait}
-use Rattle.port.specs.declared.Wait.TheVariants.{Nothing, Answer}
+use Rattle.std.specs.Prelude.{Some, None}
 use Rattle.catalogue.specs.Bytes.{HeldCatalogue}
 use Rattle.catalogue.proofs.Laws.{refused_leaves}
 use Rattle.controller.specs.CatalogueCall.{CatalogueCall}
@@ -43,11 +42,11 @@ dock_buffer_left {decide} {out = out} p refused = p.buffer_is ∙ (refusal_leave
 
 -- what a side sees put back as it is: nothing changes
 wait_back : (side : Side) (w : Wait) → wait_put side (wait_seen side w) w ≡ w
-wait_back side Nothing = refl
-wait_back Partner (Answer Partner r) = refl
-wait_back Partner (Answer Cable r) = refl
-wait_back Cable (Answer Partner r) = refl
-wait_back Cable (Answer Cable r) = refl
+wait_back side None = refl
+wait_back Partner (Some (Partner, r)) = refl
+wait_back Partner (Some (Cable, r)) = refl
+wait_back Cable (Some (Partner, r)) = refl
+wait_back Cable (Some (Cable, r)) = refl
 
 pub put_back_seen : (side : Side) (p : Port) → put_back side (seen side p) p ≡ p
 unfolding put_back seen

@@ -10,7 +10,7 @@ use Rattle.hearing.specs.Hearing.{Result, heard}
 use Rattle.port.specs.Calls.{owners_decision, concerning}
 use Rattle.port.specs.Sides.{seen, stepped_on}
 use Rattle.port.specs.declared.Side.{Side}
-use Rattle.port.specs.declared.Step.{Step}
+use Rattle.port.specs.Step.{Step}
 use Rattle.controller.specs.Port.{port_from, numbers_after}
 use Rattle.laws.specs.Lent.{Lent, lent, left, accepted}
 use Rattle.controller.specs.Told.{handed_numbers}

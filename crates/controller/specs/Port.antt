@@ -13,8 +13,7 @@ use Rattle.port.specs.declared.Own.{Own}
 use Rattle.port.specs.declared.Port.{Port}
 use Rattle.port.specs.declared.Side.{Side}
 use Rattle.port.specs.declared.Side.TheVariants.{Partner, Cable}
-use Rattle.port.specs.declared.Wait.{Wait}
-use Rattle.port.specs.declared.Wait.TheVariants.{Nothing, Answer}
+use Rattle.port.specs.Sides.{Wait}
 
 -- the low eight bits
 abbrev pub low_byte : ℕ → ℕ
@@ -36,7 +35,7 @@ edition_from number = cond (eqb number 10) OneZero (cond (eqb number 20) TwoZero
 
 -- 1 an answer of the partner, 2 an answer of the cable, any other nothing
 abbrev pub wait_from : ℕ → Request → Wait
-wait_from tag request = cond (eqb tag 1) (Answer Partner request) (cond (eqb tag 2) (Answer Cable request) Nothing)
+wait_from tag request = cond (eqb tag 1) (Some (Partner, request)) (cond (eqb tag 2) (Some (Cable, request)) None)
 
 -- 1 its list is open, 2 its list is done, any other none
 abbrev pub candidate_from : ℕ → Candidate
@@ -71,8 +70,8 @@ side_number Partner = 0
 side_number Cable = 1
 
 abbrev pub wait_numbers : Wait → List ℕ
-wait_numbers Nothing = 0 ∷ 0 ∷ 0 ∷ 0 ∷ []
-wait_numbers (Answer side r) = (side_number side + 1) ∷ r.svid ∷ r.command ∷ r.position ∷ []
+wait_numbers None = 0 ∷ 0 ∷ 0 ∷ 0 ∷ []
+wait_numbers (Some (side, r)) = (side_number side + 1) ∷ r.svid ∷ r.command ∷ r.position ∷ []
 
 abbrev pub candidate_number : Candidate → ℕ
 candidate_number Absent = 0

@@ -5,7 +5,7 @@ use Rattle.messages.specs.declared.request.Request.{Request}
 use Rattle.laptop.specs.declared.Notice.{Notice}
 use Rattle.laptop.specs.declared.Told.{Told}
 use Rattle.laptop.specs.declared.Told.TheVariants.{Nothing, Attention, Nak, Busy, Timer, ProtocolError}
-use Rattle.port.specs.declared.Step.{Step}
+use Rattle.port.specs.Step.{Step}
 use Rattle.controller.specs.Port.{side_number}
 
 abbrev pub request_numbers : ℕ → ℕ → Request → ℕ → List ℕ

@@ -2,14 +2,15 @@
 ghost use Rattle.std.specs.Prelude.{◌≡◌, replicate};
 ghost use Rattle.laptop.specs.Marks.{reported};
 ghost use Rattle.laptop.specs.State.{memory_lent};
+ghost use Rattle.laptop.specs.Step.{stepped};
 ghost use Rattle.port.specs.Sides.{own_of, fresh_port};
 ghost use Rattle.controller.specs.LaptopCalls.{HeardOn, LaptopHears};
 ghost use Rattle.controller.specs.Port.{side_from, port_from, port_numbers};
-ghost use Rattle.laws.specs.Lent.{lent, left};
+ghost use Rattle.laws.specs.Lent.{lent};
 
 use crate::numbers::side_from;
 use crate::port_state::port_from;
-use crate::port_writing::{put_port, write_port};
+use crate::port_writing::write_port;
 use crate::told::hand_over;
 use port::{seen, stepped_on};
 
@@ -19,7 +20,7 @@ pub fn laptop_fresh(
     partner_entered: &mut [u8; 72],
     cable_entered: &mut [u8; 72],
 )
-    ensures { (left state ≡ port_numbers fresh_port) × (left partner_entered ≡ replicate 72 0) × (left cable_entered ≡ replicate 72 0) }
+    ensures { (state.new ≡ port_numbers fresh_port) × (partner_entered.new ≡ replicate 72 0) × (cable_entered.new ≡ replicate 72 0) }
 {
     write_port(port::fresh(partner_entered, cable_entered), state);
 }
@@ -38,9 +39,9 @@ fn hear(
     held_identity: &mut [u32; 6],
     held_run: &mut [u32],
     entered: &mut [u8; 72],
-) -> laptop::Step
+) -> Result<laptop::Accepted, laptop::Refused>
     ensures { HeardOn (side_from side) bytes.now state.now
-        (memory_lent svids modes identity run held_svids held_modes held_identity held_run entered) result }
+        (memory_lent svids modes identity run held_svids held_modes held_identity held_run entered) (stepped result) }
 {
     hearing::message(
         seen(side_from(side), port_from(state)),
@@ -90,10 +91,11 @@ pub fn laptop_message(
         held_run,
         entered,
     );
-    let step = stepped_on(side_from(side), port_from(state), heard);
-    let after = step.port;
-    put_port(after, state);
-    hand_over(step, handed)
+    hand_over(
+        stepped_on(side_from(side), port_from(state), heard),
+        state,
+        handed,
+    )
 }
 
 // How many modes of the SVID are entered on a side.

@@ -7,7 +7,6 @@ ghost use Rattle.laws.specs.Lent.{lent};
 
 use crate::numbers::side_from;
 use crate::port_state::port_from;
-use crate::port_writing::put_port;
 use crate::told::hand_over;
 
 pub fn laptop_next(
@@ -24,7 +23,7 @@ pub fn laptop_next(
         (λ l. decide_next l svids.now entered.now (length run.now) (length held_run.now))
         (length run.now) (length held_run.now) result state out handed }
 {
-    let step = port::next(
+    let given = port::next(
         port_from(state),
         side_from(side),
         svids,
@@ -33,9 +32,7 @@ pub fn laptop_next(
         held_run,
         out,
     );
-    let after = step.port;
-    put_port(after, state);
-    hand_over(step, handed)
+    hand_over(given, state, handed)
 }
 
 pub fn laptop_start_over(
@@ -51,7 +48,7 @@ pub fn laptop_start_over(
         (λ l. decide_start_over l entered.now (length run.now) (length held_run.now))
         (length run.now) (length held_run.now) result state out handed }
 {
-    let step = port::start_over(
+    let given = port::start_over(
         port_from(state),
         side_from(side),
         entered,
@@ -59,9 +56,7 @@ pub fn laptop_start_over(
         held_run,
         out,
     );
-    let after = step.port;
-    put_port(after, state);
-    hand_over(step, handed)
+    hand_over(given, state, handed)
 }
 
 pub fn laptop_drop(
@@ -76,10 +71,8 @@ pub fn laptop_drop(
         (λ l. decide_drop l (length run.now) (length held_run.now))
         (length run.now) (length held_run.now) result state out handed }
 {
-    let step = port::drop(port_from(state), side_from(side), run, held_run, out);
-    let after = step.port;
-    put_port(after, state);
-    hand_over(step, handed)
+    let given = port::drop(port_from(state), side_from(side), run, held_run, out);
+    hand_over(given, state, handed)
 }
 
 pub fn laptop_enter(
@@ -99,7 +92,7 @@ pub fn laptop_enter(
         (λ l. decide_enter l held_svids.now held_modes.now entered.now (length run.now) (length held_run.now) svid position)
         (length run.now) (length held_run.now) result state out handed }
 {
-    let step = port::enter(
+    let given = port::enter(
         port_from(state),
         side_from(side),
         svid,
@@ -111,9 +104,7 @@ pub fn laptop_enter(
         held_run,
         out,
     );
-    let after = step.port;
-    put_port(after, state);
-    hand_over(step, handed)
+    hand_over(given, state, handed)
 }
 
 pub fn laptop_exit(
@@ -133,7 +124,7 @@ pub fn laptop_exit(
         (λ l. decide_exit l held_svids.now held_modes.now entered.now (length run.now) (length held_run.now) svid position)
         (length run.now) (length held_run.now) result state out handed }
 {
-    let step = port::exit(
+    let given = port::exit(
         port_from(state),
         side_from(side),
         svid,
@@ -145,7 +136,5 @@ pub fn laptop_exit(
         held_run,
         out,
     );
-    let after = step.port;
-    put_port(after, state);
-    hand_over(step, handed)
+    hand_over(given, state, handed)
 }

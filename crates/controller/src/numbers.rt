@@ -26,12 +26,13 @@ pub(crate) fn request_from(svid: u16, command: u16, position: u16) -> Request
 pub(crate) fn side_from(number: u8) -> Side
     ensures { result ≡ side_from number }
 {
-    if number == 1 {
-        return Side::Cable;
+    match number {
+        1 => Side::Cable,
+        _ => Side::Partner,
     }
-    Side::Partner
 }
 
+// These numbers are the C interface's: `port`, where an impl of From would have to stand, knows none.
 pub(crate) fn side_number(side: Side) -> u8
     ensures { result ≡ side_number side }
 {
@@ -45,11 +46,9 @@ pub(crate) fn side_number(side: Side) -> u8
 pub(crate) fn edition_from(number: u16) -> Edition
     ensures { result ≡ edition_from number }
 {
-    if number == 10 {
-        return Edition::OneZero;
+    match number {
+        10 => Edition::OneZero,
+        20 => Edition::TwoZero,
+        _ => Edition::TwoOne,
     }
-    if number == 20 {
-        return Edition::TwoZero;
-    }
-    Edition::TwoOne
 }

@@ -7,9 +7,9 @@ ghost use Rattle.laws.specs.Lent.{lent};
 ghost use Rattle.controller.specs.Port.{size_from, wait_from, candidate_from, held_from, wait_in, own_from, port_from};
 
 use crate::numbers::{edition_from, low_byte, request_from};
-use laptop::{Candidate, Held, Size};
+use laptop::{Candidate, Size};
 use messages::Request;
-use port::{Own, Port, Side, Wait};
+use port::{Own, Port, Side};
 
 fn size_from(extent: u16, count: u16) -> Size
     ensures { result ≡ size_from extent count }
@@ -20,37 +20,30 @@ fn size_from(extent: u16, count: u16) -> Size
     }
 }
 
-fn wait_from(tag: u16, request: Request) -> Wait
+fn wait_from(tag: u16, request: Request) -> Option<(Side, Request)>
     ensures { result ≡ wait_from tag request }
 {
-    if tag == 1 {
-        return Wait::Answer(Side::Partner, request);
+    match tag {
+        1 => Some((Side::Partner, request)),
+        2 => Some((Side::Cable, request)),
+        _ => None,
     }
-    if tag == 2 {
-        return Wait::Answer(Side::Cable, request);
-    }
-    Wait::Nothing
 }
 
 fn candidate_from(tag: u16) -> Candidate
     ensures { result ≡ candidate_from tag }
 {
-    if tag == 1 {
-        return Candidate::Open;
+    match tag {
+        1 => Candidate::Open,
+        2 => Candidate::Done,
+        _ => Candidate::Absent,
     }
-    if tag == 2 {
-        return Candidate::Done;
-    }
-    Candidate::Absent
 }
 
-fn held_from(tag: u16, size: Size) -> Held
+fn held_from(tag: u16, size: Size) -> Option<Size>
     ensures { result ≡ held_from tag size }
 {
-    if tag == 1 {
-        return Held::Catalogue(size);
-    }
-    Held::Nothing
+    if tag == 1 { Some(size) } else { None }
 }
 
 // A side's nine numbers begin at the place.
@@ -68,7 +61,7 @@ pub(crate) fn own_from(state: &[u16; 22], at: usize) -> Own
     }
 }
 
-pub(crate) fn wait_in(state: &[u16; 22]) -> Wait
+pub(crate) fn wait_in(state: &[u16; 22]) -> Option<(Side, Request)>
     ensures { result ≡ wait_in state.now }
 {
     wait_from(state[0], request_from(state[1], state[2], state[3]))

@@ -1,18 +1,18 @@
 // A port written as numbers, where it is another than they stand for. Each part is written by itself: then the least lies on the stack.
 ghost use Rattle.std.specs.Prelude.{◌≡◌, ◌≤◌};
 ghost use Rattle.std.proofs.lemmas.List.Edits.{sets};
-ghost use Rattle.laws.specs.Lent.{lent, left};
+ghost use Rattle.laws.specs.Lent.{lent};
 ghost use Rattle.taking.specs.Taking.{same_list};
 ghost use Rattle.controller.specs.Port.{candidate_number, wait_numbers, held_numbers, own_numbers, port_from, port_numbers, numbers_after};
 
 use crate::numbers::side_number;
 use crate::port_same::{same_own, same_wait};
 use crate::port_state::{own_from, wait_in};
-use laptop::{Candidate, Held};
-use messages::edition_number;
-use port::{Own, Port, Wait};
+use laptop::{Candidate, Size};
+use messages::Request;
+use port::{Own, Port, Side};
 
-pub(crate) fn candidate_number(candidate: Candidate) -> u16
+fn candidate_number(candidate: Candidate) -> u16
     ensures { result ≡ candidate_number candidate }
 {
     match candidate {
@@ -22,94 +22,73 @@ pub(crate) fn candidate_number(candidate: Candidate) -> u16
     }
 }
 
-fn wait_numbers(wait: Wait) -> [u16; 4]
+fn wait_numbers(wait: Option<(Side, Request)>) -> [u16; 4]
     ensures { result ≡ wait_numbers wait }
 {
     match wait {
-        Wait::Nothing => [0, 0, 0, 0],
-        Wait::Answer(side, request) => [
-            side_number(side) as u16 + 1,
+        None => [0, 0, 0, 0],
+        Some((side, request)) => [
+            u16::from(side_number(side)) + 1,
             request.svid,
-            request.command as u16,
-            request.position as u16,
+            u16::from(request.command),
+            u16::from(request.position),
         ],
     }
 }
 
-fn held_numbers(held: Held) -> [u16; 3]
+fn held_numbers(held: Option<Size>) -> [u16; 3]
     ensures { result ≡ held_numbers held }
 {
     match held {
-        Held::Nothing => [0, 0, 0],
-        Held::Catalogue(size) => [1, size.extent as u16, size.count as u16],
+        None => [0, 0, 0],
+        Some(size) => [1, u16::from(size.extent), u16::from(size.count)],
     }
 }
 
-fn put_wait(wait: Wait, state: &mut [u16; 22])
-    ensures { left state ≡ sets (lent state) 0 (wait_numbers wait) }
+fn put_wait(wait: Option<(Side, Request)>, state: &mut [u16; 22])
+    ensures { state.new ≡ sets state.old 0 (wait_numbers wait) }
 {
-    let numbers = wait_numbers(wait);
-    state[0] = numbers[0];
-    state[1] = numbers[1];
-    state[2] = numbers[2];
-    state[3] = numbers[3];
+    state[..4].copy_from_slice(&wait_numbers(wait));
 }
 
 // A side's nine numbers begin at the place.
 fn put_own(own: Own, at: usize, state: &mut [u16; 22])
     requires { at ≤ 13 }
-    ensures { left state ≡ sets (lent state) at (own_numbers own) }
+    ensures { state.new ≡ sets state.old at (own_numbers own) }
 {
-    let candidate = own.candidate;
-    let catalogue = own.held;
-    let held = held_numbers(catalogue);
-    let edition = own.edition;
-    state[at] = candidate_number(candidate);
-    state[at + 1] = own.gathered.extent as u16;
-    state[at + 2] = own.gathered.count as u16;
-    state[at + 3] = own.stored as u16;
-    state[at + 4] = own.pages as u16;
-    state[at + 5] = held[0];
-    state[at + 6] = held[1];
-    state[at + 7] = held[2];
-    state[at + 8] = edition_number(edition) as u16;
+    state[at] = candidate_number(own.candidate);
+    state[at + 1] = u16::from(own.gathered.extent);
+    state[at + 2] = u16::from(own.gathered.count);
+    state[at + 3] = u16::from(own.stored);
+    state[at + 4] = u16::from(own.pages);
+    state[at + 5..at + 8].copy_from_slice(&held_numbers(own.held));
+    state[at + 8] = u16::from(u8::from(own.edition));
 }
 
 // Cleared first: nothing is left of what stood there.
 pub(crate) fn write_port(port: Port, state: &mut [u16; 22])
-    ensures { left state ≡ port_numbers port }
+    ensures { state.new ≡ port_numbers port }
 {
     *state = [0; 22];
-    let wait = port.wait;
-    put_wait(wait, state);
-    let partner = port.partner;
-    put_own(partner, 4, state);
-    let cable = port.cable;
-    put_own(cable, 13, state);
+    put_wait(port.wait, state);
+    put_own(port.partner, 4, state);
+    put_own(port.cable, 13, state);
 }
 
 // Do the numbers stand for the port?
 fn stands_for(state: &[u16; 22], port: Port) -> bool
     ensures { result ≡ same_list (port_numbers (port_from state.now)) (port_numbers port) }
 {
-    let wait = port.wait;
-    if !same_wait(wait_in(state), wait) {
-        return false;
-    }
-    let partner = port.partner;
-    if !same_own(own_from(state, 4), partner) {
-        return false;
-    }
-    let cable = port.cable;
-    same_own(own_from(state, 13), cable)
+    same_wait(wait_in(state), port.wait)
+        && same_own(own_from(state, 4), port.partner)
+        && same_own(own_from(state, 13), port.cable)
 }
 
 // Writes a port's numbers where it is another than the lent ones stand for.
 pub(crate) fn put_port(port: Port, state: &mut [u16; 22])
-    ensures { left state ≡ numbers_after (lent state) port }
+    ensures { state.new ≡ numbers_after state.old port }
 {
-    if stands_for(state, port) {
-        return;
+    if !stands_for(state, port) {
+        write_port(port, state);
     }
-    write_port(port, state);
 }

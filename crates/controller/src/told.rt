@@ -2,26 +2,29 @@
 // is told (0 nothing, 1 an Attention, 2 NAK, 3 BUSY, 4 a timer, 5 a protocol error); the SVID, command and position of the request, or of the
 // Attention, with how many objects follow its header and that object; the side (0 the partner, 1 the cable).
 ghost use Rattle.std.specs.Prelude.{◌≡◌};
-ghost use Rattle.laws.specs.Lent.{lent, left, accepted};
+ghost use Rattle.laws.specs.Lent.{accepted};
+ghost use Rattle.port.specs.Step.{stepped};
+ghost use Rattle.controller.specs.Port.{numbers_after};
 ghost use Rattle.controller.specs.Told.{request_numbers, notice_numbers, told_numbers, handed_numbers};
 
 use crate::numbers::side_number;
+use crate::port_writing::put_port;
 use laptop::{Notice, Told};
 use messages::{ATTENTION, Request};
-use port::Step;
+use port::{Accepted, Refused};
 
 fn request_numbers(length: u8, tag: u32, request: Request, side: u8) -> [u32; 8]
     ensures { result ≡ request_numbers length tag request side }
 {
     [
-        length as u32,
+        u32::from(length),
         tag,
-        request.svid as u32,
-        request.command as u32,
-        request.position as u32,
+        u32::from(request.svid),
+        u32::from(request.command),
+        u32::from(request.position),
         0,
         0,
-        side as u32,
+        u32::from(side),
     ]
 }
 
@@ -29,14 +32,14 @@ fn notice_numbers(length: u8, notice: Notice, side: u8) -> [u32; 8]
     ensures { result ≡ notice_numbers length notice side }
 {
     [
-        length as u32,
+        u32::from(length),
         1,
-        notice.svid as u32,
-        ATTENTION as u32,
-        notice.position as u32,
-        notice.count as u32,
+        u32::from(notice.svid),
+        u32::from(ATTENTION),
+        u32::from(notice.position),
+        u32::from(notice.count),
         notice.object,
-        side as u32,
+        u32::from(side),
     ]
 }
 
@@ -44,7 +47,7 @@ fn told_numbers(length: u8, told: Told, side: u8) -> [u32; 8]
     ensures { result ≡ told_numbers length told side }
 {
     match told {
-        Told::Nothing => [length as u32, 0, 0, 0, 0, 0, 0, side as u32],
+        Told::Nothing => [u32::from(length), 0, 0, 0, 0, 0, 0, u32::from(side)],
         Told::Attention(notice) => notice_numbers(length, notice, side),
         Told::Nak(request) => request_numbers(length, 2, request, side),
         Told::Busy(request) => request_numbers(length, 3, request, side),
@@ -53,15 +56,25 @@ fn told_numbers(length: u8, told: Told, side: u8) -> [u32; 8]
     }
 }
 
-// On acceptance writes what is handed over into what was lent; gives the refusal number.
-pub(crate) fn hand_over(step: Step, handed: &mut [u32; 8]) -> u8
-    ensures { (result ≡ step.refusal) × (left handed ≡ accepted result (handed_numbers step) (lent handed)) }
+// The new state is written back, on acceptance what is handed over too; gives the refusal number.
+pub(crate) fn hand_over(
+    given: Result<Accepted, Refused>,
+    state: &mut [u16; 22],
+    handed: &mut [u32; 8],
+) -> u8
+    ensures { (result ≡ (stepped given).refusal)
+        × (state.new ≡ numbers_after state.old (stepped given).port)
+        × (handed.new ≡ accepted result (handed_numbers (stepped given)) handed.old) }
 {
-    if step.refusal == 0 {
-        let told = step.told;
-        let side = step.side;
-        let over = told_numbers(step.length, told, side_number(side));
-        *handed = over;
+    match given {
+        Ok(accepted) => {
+            put_port(accepted.port, state);
+            *handed = told_numbers(accepted.length, accepted.told, side_number(accepted.side));
+            0
+        }
+        Err(refused) => {
+            put_port(refused.port, state);
+            u8::from(refused.refusal)
+        }
     }
-    step.refusal
 }

@@ -93,8 +93,8 @@ use Rattle.stretches.proofs.Laws.{not_listed_exactly}
 use Rattle.mending.specs.Beginning.{BeginningOf}
 use Rattle.mending.specs.Mending.{kept_of, kept_bytes, mend_refusal, report_of, mending_of}
 use Rattle.mending.specs.Words.{AtFront}
-use Rattle.mending.specs.declared.Mended.TheVariants.{Refused as MendedRefused}
-use Rattle.mending.specs.declared.Mended.TheVariants.{Sound as MendedSound}
+use Rattle.mending.specs.Mending.{Refused as MendedRefused}
+use Rattle.mending.specs.Mending.{Sound as MendedSound}
 use Rattle.mending.specs.declared.keeping.Kept.{Kept as MendingKept}
 use Rattle.mending.proofs.Cutting.{cut_begins, nothing_behind}
 use Rattle.mending.proofs.Front.{kept_before, kept_front}
@@ -108,7 +108,6 @@ use Rattle.demands.proofs.NeverFour.{never_four}
 use Rattle.port.specs.Sides.{is_others, seen, stepped_on}
 use Rattle.port.specs.declared.Port.{Port}
 use Rattle.port.specs.declared.Side.{Side}
-use Rattle.port.specs.declared.Wait.TheVariants.{Nothing as PortNothing}
 use Rattle.port_laws.specs.Cases.{given as port_given}
 use Rattle.port_laws.specs.Cases.{said as port_said}
 use Rattle.port_laws.specs.Effects.{Call as PortCall}
@@ -204,7 +203,7 @@ pub port_given_exactly : (c : PortCall) (p : Port) (m : Memory) (out : List ℕ)
 port_given_exactly = given_exactly_of_port
 
 pub port_seven_exactly : (c : PortCall) (p : Port) (m : Memory) (out : List ℕ) → is_owners c ≡ true → (ShortRun m → ⊥) →
-    ((port_effect_of c p m out).step.refusal ≡ 7) ↔ (p.wait ≡ PortNothing → ⊥)
+    ((port_effect_of c p m out).step.refusal ≡ 7) ↔ (p.wait ≡ None → ⊥)
 port_seven_exactly = seven_exactly
 
 -- to the dock,
@@ -439,7 +438,7 @@ pub six_from_the_side_not_awaited : (side : Side) (p : Port) (m : Memory) (bytes
 six_from_the_side_not_awaited = six_from_the_other_side
 
 -- 13 is by a side's own entered modes only.
-pub thirteen_by_its_own_modes : (side : Side) (p : Port) (m : Memory) (out : List ℕ) → (ShortRun m → ⊥) → p.wait ≡ PortNothing →
+pub thirteen_by_its_own_modes : (side : Side) (p : Port) (m : Memory) (out : List ℕ) → (ShortRun m → ⊥) → p.wait ≡ None →
     ((port_effect_of (port_next side) p m out).step.refusal ≡ 13) ↔ AnyEntered m
 thirteen_by_its_own_modes = thirteen_by_own
 

@@ -14,8 +14,7 @@ use Rattle.messages.proofs.Reserved.{read_never_4, write_never_4}
 use Rattle.pages.specs.Lists.{most_svids}
 use Rattle.taking.specs.declared.Verdict.{Verdict}
 use Rattle.taking.specs.declared.Verdict.TheVariants.{Bad, Repeat, More, Ends}
-use Rattle.messages.specs.declared.edition.Named.TheVariants.{Nothing as NamedNothing}
-use Rattle.messages.specs.declared.edition.Named.TheVariants.{Edition as NamedEdition}
+use Rattle.std.specs.Prelude.{Option, Some, None}
 use Rattle.dock.specs.Data.{with_edition}
 use Rattle.dock.specs.Dock.{reply, sending}
 use Rattle.dock.specs.Dock.{sends as dock_sends}
@@ -128,8 +127,8 @@ pub never_four : (c : AnyCall) → number_given c ≡ 4 → ⊥
 unfolding number_given
 never_four (reads bytes) = read_not_4 (read_outcome bytes) (read_never_4 bytes)
 never_four (writes m out) = write_never_4 m (length out)
-never_four (writes_numbered NamedNothing m out) = λ e. omega arith
-never_four (writes_numbered (NamedEdition at) m out) = write_never_4 m (length out)
+never_four (writes_numbered None m out) = λ e. omega arith
+never_four (writes_numbered (Some at) m out) = write_never_4 m (length out)
 never_four (of_dock c d out) = dock_never_four c d out
 never_four (of_laptop c l m out) = laptop_never_four c l m out
 never_four (of_port c p m out) = port_never_four c p m out

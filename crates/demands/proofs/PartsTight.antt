@@ -14,13 +14,11 @@ use Rattle.messages.specs.Reading.{read_number}
 use Rattle.messages.specs.Requests.{request_of, head_for, same_request}
 use Rattle.messages.specs.Writing.{WrittenBy}
 use Rattle.messages.specs.declared.edition.Edition.{Edition}
-use Rattle.messages.specs.declared.edition.Named.{Named}
-use Rattle.messages.specs.declared.edition.Named.TheVariants.{Nothing}
-use Rattle.messages.specs.declared.edition.Named.TheVariants.{Edition as NamedEdition}
+use Rattle.std.specs.Prelude.{Option, Some, None}
 use Rattle.messages.proofs.Laws.{write_only}
 use Rattle.messages.specs.Table.{shape}
 use Rattle.messages.specs.declared.Head.{Head}
-use Rattle.messages.specs.declared.ReadAs.{ReadAs}
+use Rattle.messages.specs.Reading.{ReadAs}
 use Rattle.messages.specs.declared.request.Request.{Request}
 use Rattle.laptop.specs.Calls.{Stepped, refused_by, accepted_with, short_runs}
 use Rattle.laptop.specs.Catalogue.{modes_number}
@@ -58,14 +56,14 @@ lower_only a b = λ result other. one_value
 pub edition_number_only : (e : Edition) → One (λ (number : ℕ). number ≡ edition_number e)
 edition_number_only e = λ result other. one_value
 
-pub edition_named_only : (number : ℕ) → One (λ (named : Named). named ≡ edition_named number)
+pub edition_named_only : (number : ℕ) → One (λ (named : Option Edition). named ≡ edition_named number)
 edition_named_only number = λ result other. one_value
 
 -- at the edition that a number names, or 5
-pub numbered_only : (named : Named) (m : Message) (out : List ℕ) (number number' : ℕ) (after after' : List ℕ) → WrittenBy named m out number after →
+pub numbered_only : (named : Option Edition) (m : Message) (out : List ℕ) (number number' : ℕ) (after after' : List ℕ) → WrittenBy named m out number after →
     WrittenBy named m out number' after' → (number ≡ number') × (after ≡ after')
-numbered_only Nothing m out number number' after after' w w' = (one_value w.0 w'.0, one_value w.1 w'.1)
-numbered_only (NamedEdition e) m out number number' after after' w w' = write_only e m out number number' after after' w w'
+numbered_only None m out number number' after after' w w' = (one_value w.0 w'.0, one_value w.1 w'.1)
+numbered_only (Some e) m out number number' after after' w w' = write_only e m out number number' after after' w w'
 
 pub bytes_of_only : (object : ℕ) → One (λ (bytes : List ℕ). bytes ≡ bytes_of_object object)
 bytes_of_only object = λ result other. one_value

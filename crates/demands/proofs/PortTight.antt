@@ -14,7 +14,7 @@ use Rattle.port.specs.Calls.{HearsOn, Owners, concerning}
 use Rattle.port.specs.Sides.{own_of, seen, fresh_port}
 use Rattle.port.specs.declared.Port.{Port}
 use Rattle.port.specs.declared.Side.{Side}
-use Rattle.port.specs.declared.Step.{Step}
+use Rattle.port.specs.Step.{Step}
 use Rattle.demands.proofs.LaptopTight.{One, OneWith}
 
 module _ (side : Side) (p : Port) where

@@ -1,12 +1,9 @@
 -- Every public function that answers by a number of its own, as one, with the number that its promise says (docs/PROMISES.md).
-use Rattle.std.specs.Prelude.{ℕ, Bool, List, length}
+use Rattle.std.specs.Prelude.{ℕ, Bool, Option, Some, None, List, length}
 use Rattle.messages.specs.Layout.{Message}
 use Rattle.messages.specs.Reading.{read_outcome, shown, read_number}
 use Rattle.messages.specs.Writing.{write_refusal}
 use Rattle.messages.specs.declared.edition.Edition.{Edition}
-use Rattle.messages.specs.declared.edition.Named.{Named}
-use Rattle.messages.specs.declared.edition.Named.TheVariants.{Nothing}
-use Rattle.messages.specs.declared.edition.Named.TheVariants.{Edition as NamedEdition}
 use Rattle.messages.specs.declared.request.Request.{Request}
 use Rattle.dock.specs.Data.{with_edition}
 use Rattle.dock.specs.Dock.{reply, sending}
@@ -37,7 +34,7 @@ pub data AnyCall : Type 0 where
   -- a message's bytes; a message, and the buffer; and what its edition's number names
   reads : List ℕ → AnyCall
   writes : Message → List ℕ → AnyCall
-  writes_numbered : Named → Message → List ℕ → AnyCall
+  writes_numbered : Option Edition → Message → List ℕ → AnyCall
   -- a call of the dock, of a laptop of 01 or of the port, the state, what is lent, and the buffer
   of_dock : DockCall → Dock → List ℕ → AnyCall
   of_laptop : Call → Laptop → Memory → List ℕ → AnyCall
@@ -63,8 +60,8 @@ pub data AnyCall : Type 0 where
 unfoldable pub number_given : AnyCall → ℕ
 number_given (reads bytes) = read_number (shown (read_outcome bytes)).outcome
 number_given (writes m out) = write_refusal m (length out)
-number_given (writes_numbered Nothing m out) = 5
-number_given (writes_numbered (NamedEdition e) m out) = write_refusal m (length out)
+number_given (writes_numbered None m out) = 5
+number_given (writes_numbered (Some e) m out) = write_refusal m (length out)
 number_given (of_dock c d out) = (dock_effect_of c d out).refusal
 number_given (of_laptop c l m out) = (effect_of c l m out).step.refusal
 number_given (of_port c p m out) = (port_effect_of c p m out).step.refusal

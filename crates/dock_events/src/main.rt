@@ -7,8 +7,8 @@ mod report;
 use dock::Dock;
 use event::unchanged;
 use report::print_event;
-use streams::finish::{Finish, MOST, STDOUT, Turn, print_finish};
-use streams::input::{Byte, GREATEST, length_of, read_byte};
+use streams::finish::{STDOUT, Stop, answer_each};
+use streams::input::{GREATEST, read_byte};
 
 // The kind of the event that gives the output buffer another number of bytes. Module `event` has
 // the others.
@@ -27,80 +27,28 @@ struct State {
     room: u8,
 }
 
-// The state stands beside the turn and not in it: Rattle does not prove an enum that holds an array
-// by itself.
-#[derive(Clone, Copy)]
-struct Answer {
-    turn: Turn,
-    state: State,
-}
-
-fn answer_room(number: u64, state: State) -> Answer {
-    let Byte::Read(room) = read_byte() else {
-        return Answer {
-            turn: Turn::Cut,
-            state,
-        };
-    };
-    let dock = state.dock;
+fn answer_room(number: u64, dock: Dock) -> Result<State, Stop> {
+    let room = read_byte().ok_or(Stop::Cut)?;
     let output = [UNWRITTEN; GREATEST];
-    print_event(number, unchanged(dock), &output[0..length_of(room)]);
-    Answer {
-        turn: Turn::Answered,
-        state: State { dock, room },
-    }
+    print_event(number, unchanged(dock), &output[..usize::from(room)]);
+    Ok(State { dock, room })
 }
 
-fn answer_event(number: u64, kind: u8, state: State) -> Answer {
-    let room = state.room;
-    let dock = state.dock;
+fn answer_event(number: u64, kind: u8, state: State) -> Result<State, Stop> {
     let mut buffer = [UNWRITTEN; GREATEST];
-    let output = &mut buffer[0..length_of(room)];
-    let taken = event::take(kind, dock, output);
-    let turn = taken.turn;
-    let step = taken.step;
-    if let Turn::Answered = turn {
-        print_event(number, step, output);
-    }
-    let dock = step.dock;
-    Answer {
-        turn,
-        state: State { dock, room },
-    }
+    let output = &mut buffer[..usize::from(state.room)];
+    let step = event::take(kind, state.dock, output)?;
+    print_event(number, step, output);
+    Ok(State {
+        dock: step.dock,
+        ..state
+    })
 }
 
-fn answer_next(number: u64, state: State) -> Answer {
-    let Byte::Read(kind) = read_byte() else {
-        return Answer {
-            turn: Turn::Ended,
-            state,
-        };
-    };
-    if kind == ROOM {
-        return answer_room(number, state);
-    }
-    answer_event(number, kind, state)
-}
-
-fn answer_all() -> Finish {
-    let dock = dock::fresh();
-    let mut state = State {
-        dock,
-        room: FIRST_ROOM,
-    };
-    let mut answered: u64 = 0;
-    while answered < MOST {
-        let answer = answer_next(answered + 1, state);
-        let turn = answer.turn;
-        let Turn::Answered = turn else {
-            return Finish { turn, answered };
-        };
-        state = answer.state;
-        answered += 1;
-    }
-    Finish {
-        turn: Turn::Ended,
-        answered,
+fn answer_next(number: u64, state: State) -> Result<State, Stop> {
+    match read_byte().ok_or(Stop::Ended)? {
+        ROOM => answer_room(number, state.dock),
+        kind => answer_event(number, kind, state),
     }
 }
 
@@ -109,5 +57,13 @@ fn main() {
         STDOUT,
         b"event refusal length buffer standing page count edition\n",
     );
-    print_finish(answer_all(), b" events\n");
+    let mut state = State {
+        dock: dock::fresh(),
+        room: FIRST_ROOM,
+    };
+    let finish = answer_each(0, |number| -> Result<(), Stop> {
+        state = answer_next(number, state)?;
+        Ok(())
+    });
+    finish.print(b" events\n");
 }

@@ -2,51 +2,38 @@
 // stands then.
 use dock::{Dock, Standing, Step};
 use messages::edition_number;
-use text::line::{
-    append, append_decimal, append_edition, append_field, append_nothing, append_spaced_bytes,
-    end_line,
-};
+use text::line::Line;
 
 // The longest line: a number of seven digits, a refusal and a length of three digits, 255 bytes of
 // two digits each, "sending", a page and a count of three digits, an edition, a space before each
 // but the first, and the line end.
 const LONGEST: usize = 547;
 
-fn append_output(line: &mut [u8], at: usize, output: &[u8]) -> usize {
-    if output.len() == 0 {
-        return append_nothing(line, at);
-    }
-    append_spaced_bytes(line, at, output)
-}
-
-fn append_standing(line: &mut [u8], at: usize, standing: Standing) -> usize {
-    match standing {
-        Standing::Ready => append(line, at, b" ready"),
-        Standing::Asking(_) => append(line, at, b" asking"),
-        Standing::Sending(_) => append(line, at, b" sending"),
+fn add_step(line: &mut Line<LONGEST>, step: Step, output: &[u8]) {
+    line.field(step.refusal);
+    line.field(step.length);
+    if output.is_empty() {
+        line.nothing();
+    } else {
+        line.spaced_bytes(output);
     }
 }
 
-fn append_step(line: &mut [u8], at: usize, step: Step, output: &[u8]) -> usize {
-    let at = append_field(line, at, step.refusal);
-    let at = append_field(line, at, step.length);
-    append_output(line, at, output)
-}
-
-fn append_dock(line: &mut [u8], at: usize, dock: Dock) -> usize {
-    let standing = dock.standing;
-    let at = append_standing(line, at, standing);
-    let at = append_field(line, at, dock.page);
-    let at = append_field(line, at, dock.count);
-    let edition = dock.edition;
-    append_edition(line, at, edition_number(edition))
+fn add_dock(line: &mut Line<LONGEST>, dock: Dock) {
+    match dock.standing {
+        Standing::Ready => line.text(b" ready"),
+        Standing::Asking(_) => line.text(b" asking"),
+        Standing::Sending(_) => line.text(b" sending"),
+    }
+    line.field(dock.page);
+    line.field(dock.count);
+    line.edition(edition_number(dock.edition));
 }
 
 pub fn print_event(number: u64, step: Step, output: &[u8]) {
-    let dock = step.dock;
-    let mut line = [0u8; LONGEST];
-    let at = append_decimal(&mut line, 0, number);
-    let at = append_step(&mut line, at, step, output);
-    let at = append_dock(&mut line, at, dock);
-    end_line(&mut line, at);
+    let mut line = Line::new();
+    line.decimal(number);
+    add_step(&mut line, step, output);
+    add_dock(&mut line, step.dock);
+    line.print_line();
 }

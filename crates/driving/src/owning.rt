@@ -1,27 +1,114 @@
 // The laptop end's owner as one value: the port, and what the calls for each side are lent.
-use crate::calls::make_call;
-use catalogue::Bytes;
+ghost use Rattle.std.specs.Prelude.{◌≤◌};
+
 use events::Call;
-use port::{Port, Side, Step, write_catalogue};
+use laptop::Laptop;
+use messages::Refusal;
+use port::{Accepted, Port, Refused, Side, seen, write_catalogue};
 
 // More words than a run needs.
 pub const RUN: usize = 440;
 
-// What the calls for a side are lent; the names are those of the laptop's `Memory`. Of the runs so many words are lent. They stand first, where Rattle
-// finds their lengths with no proof file.
+// What the calls for a side are lent; the names are those of the laptop's `Memory`. Of the runs so many words are lent.
 #[derive(Clone, Copy)]
 pub struct Memory {
-    pub run: [u32; RUN],
-    pub held_run: [u32; RUN],
-    pub run_words: usize,
-    pub held_words: usize,
     svids: [u16; 72],
     modes: [u8; 72],
     identity: [u32; 6],
-    pub held_svids: [u16; 72],
+    pub run: [u32; RUN],
+    held_svids: [u16; 72],
     held_modes: [u8; 72],
     held_identity: [u32; 6],
-    pub entered: [u8; 72],
+    pub held_run: [u32; RUN],
+    entered: [u8; 72],
+    run_words: usize,
+    held_words: usize,
+    ghost run_within: { run_words ≤ 440 },
+    ghost held_within: { held_words ≤ 440 },
+}
+
+impl Memory {
+    // Runs that are full of a word.
+    fn new(word: u32) -> Memory {
+        Memory {
+            svids: [0; 72],
+            modes: [0; 72],
+            identity: [0; 6],
+            run: [word; RUN],
+            held_svids: [0; 72],
+            held_modes: [0; 72],
+            held_identity: [0; 6],
+            held_run: [word; RUN],
+            entered: [0; 72],
+            run_words: RUN,
+            held_words: RUN,
+        }
+    }
+
+    // What a message gave. It may write to all that its side is lent.
+    fn hear(&mut self, port: Port, side: Side, bytes: &[u8]) -> Result<Accepted, Refused> {
+        let run = &mut self.run[..];
+        let held_run = &mut self.held_run[..];
+        port::message(
+            port,
+            side,
+            bytes,
+            &mut self.svids,
+            &mut self.modes,
+            &mut self.identity,
+            &mut run[..self.run_words],
+            &mut self.held_svids,
+            &mut self.held_modes,
+            &mut self.held_identity,
+            &mut held_run[..self.held_words],
+            &mut self.entered,
+        )
+    }
+
+    // What a call gave that is no message. A timer or the protocol error concerns the side that waits.
+    fn make(
+        &self,
+        port: Port,
+        side: Side,
+        call: Call,
+        out: &mut [u8],
+    ) -> Result<Accepted, Refused> {
+        let run = &self.run[..self.run_words];
+        let held_run = &self.held_run[..self.held_words];
+        match call {
+            Call::Next => port::next(port, side, &self.svids, &self.entered, run, held_run, out),
+            Call::StartOver => port::start_over(port, side, &self.entered, run, held_run, out),
+            Call::Drop => port::drop(port, side, run, held_run, out),
+            Call::ResponseTimer => port::response_timer(port),
+            Call::EntryTimer => port::entry_timer(port),
+            Call::ExitTimer => port::exit_timer(port),
+            Call::ProtocolError => port::protocol_error(port),
+            Call::Enter(mode) => port::enter(
+                port,
+                side,
+                mode.svid,
+                mode.position,
+                &self.held_svids,
+                &self.held_modes,
+                &self.entered,
+                run,
+                held_run,
+                out,
+            ),
+            Call::Exit(mode) => port::exit(
+                port,
+                side,
+                mode.svid,
+                mode.position,
+                &self.held_svids,
+                &self.held_modes,
+                &self.entered,
+                run,
+                held_run,
+                out,
+            ),
+        }
+    }
 }
 
 #[derive(Clone, Copy)]
@@ -31,46 +118,97 @@ pub struct Owner {
     cable: Memory,
 }
 
-// What a call gave, and the owner after it.
-#[derive(Clone, Copy)]
-pub struct Turn {
-    pub step: Step,
-    pub owner: Owner,
-}
-
-// What a message gave, and what its side is lent from then on.
-#[derive(Clone, Copy)]
-struct Heard {
-    step: Step,
-    memory: Memory,
-}
-
-// Runs that are full of a word.
-fn memory_with(word: u32, entered: [u8; 72]) -> Memory {
-    Memory {
-        run: [word; RUN],
-        held_run: [word; RUN],
-        run_words: RUN,
-        held_words: RUN,
-        svids: [0; 72],
-        modes: [0; 72],
-        identity: [0; 6],
-        held_svids: [0; 72],
-        held_modes: [0; 72],
-        held_identity: [0; 6],
-        entered,
+// Without what it handed over.
+pub fn outcome_of(stepped: Result<Accepted, Refused>) -> Result<(), Refusal> {
+    match stepped {
+        Ok(_) => Ok(()),
+        Err(refused) => Err(refused.refusal),
     }
 }
 
-// The owner of a fresh port, who lends runs that are full of a word.
-pub fn fresh(word: u32) -> Owner {
-    let mut partner = [0u8; 72];
-    let mut cable = [0u8; 72];
-    let port = port::fresh(&mut partner, &mut cable);
-    Owner {
-        port,
-        partner: memory_with(word, partner),
-        cable: memory_with(word, cable),
+// Whether the bytes in the output buffer are to be sent.
+pub fn sends(stepped: Result<Accepted, Refused>) -> bool {
+    stepped.is_ok_and(|accepted| accepted.length != 0)
+}
+
+fn port_after(stepped: Result<Accepted, Refused>) -> Port {
+    match stepped {
+        Ok(accepted) => accepted.port,
+        Err(refused) => refused.port,
+    }
+}
+
+impl Owner {
+    // The owner of a fresh port, who lends runs that are full of a word.
+    pub fn new(word: u32) -> Owner {
+        let mut partner = Memory::new(word);
+        let mut cable = Memory::new(word);
+        Owner {
+            port: port::fresh(&mut partner.entered, &mut cable.entered),
+            partner,
+            cable,
+        }
+    }
+
+    pub fn memory(&self, side: Side) -> &Memory {
+        match side {
+            Side::Partner => &self.partner,
+            Side::Cable => &self.cable,
+        }
+    }
+
+    fn memory_mut(&mut self, side: Side) -> &mut Memory {
+        match side {
+            Side::Partner => &mut self.partner,
+            Side::Cable => &mut self.cable,
+        }
+    }
+
+    // The laptop of document 01 on the side.
+    pub fn laptop(&self, side: Side) -> Laptop {
+        seen(side, self.port)
+    }
+
+    // Later calls for the side are lent so many words of its runs.
+    pub fn lend(&mut self, side: Side, run_words: usize, held_words: usize) {
+        let memory = self.memory_mut(side);
+        memory.run_words = run_words.min(RUN);
+        memory.held_words = held_words.min(RUN);
+    }
+
+    // A message from the side.
+    pub fn hear(&mut self, side: Side, bytes: &[u8]) -> Result<Accepted, Refused> {
+        let port = self.port;
+        let stepped = self.memory_mut(side).hear(port, side, bytes);
+        self.port = port_after(stepped);
+        stepped
+    }
+
+    // A call that is no message changes nothing but the port.
+    pub fn make(&mut self, side: Side, call: Call, out: &mut [u8]) -> Result<Accepted, Refused> {
+        let stepped = self.memory(side).make(self.port, side, call, out);
+        self.port = port_after(stepped);
+        stepped
+    }
+
+    // How many modes of the SVID are entered on the side.
+    pub fn report(&self, side: Side, svid: u16) -> u32 {
+        let memory = self.memory(side);
+        port::report(self.port, side, svid, &memory.held_svids, &memory.entered)
+    }
+
+    // Writes the catalogue that the side holds.
+    pub fn write_held(&self, side: Side, out: &mut [u8]) -> Result<u16, Refusal> {
+        let memory = self.memory(side);
+        write_catalogue(
+            self.port,
+            side,
+            &memory.held_svids,
+            &memory.held_modes,
+            &memory.held_identity,
+            &memory.held_run[..memory.held_words],
+            out,
+        )
     }
 }
 
@@ -79,156 +217,4 @@ pub fn other(side: Side) -> Side {
         Side::Partner => Side::Cable,
         Side::Cable => Side::Partner,
     }
-}
-
-pub fn memory_of(owner: Owner, side: Side) -> Memory {
-    match side {
-        Side::Partner => owner.partner,
-        Side::Cable => owner.cable,
-    }
-}
-
-fn with_memory(owner: Owner, side: Side, memory: Memory) -> Owner {
-    match side {
-        Side::Partner => Owner {
-            partner: memory,
-            ..owner
-        },
-        Side::Cable => Owner {
-            cable: memory,
-            ..owner
-        },
-    }
-}
-
-// Later calls for the side are lent so many words of its runs.
-pub fn lend(owner: Owner, side: Side, run_words: usize, held_words: usize) -> Owner {
-    let memory = Memory {
-        run_words,
-        held_words,
-        ..memory_of(owner, side)
-    };
-    with_memory(owner, side, memory)
-}
-
-// As many of the words as are lent, to write and to read.
-fn lent(run: &mut [u32], words: usize) -> &mut [u32] {
-    if words <= run.len() {
-        return &mut run[0..words];
-    }
-    run
-}
-
-fn shown(run: &[u32], words: usize) -> &[u32] {
-    if words <= run.len() {
-        return &run[0..words];
-    }
-    run
-}
-
-fn hear_with(port: Port, side: Side, memory: Memory, bytes: &[u8]) -> Heard {
-    let mut run = memory.run;
-    let mut held_run = memory.held_run;
-    let mut svids = memory.svids;
-    let mut modes = memory.modes;
-    let mut identity = memory.identity;
-    let mut held_svids = memory.held_svids;
-    let mut held_modes = memory.held_modes;
-    let mut held_identity = memory.held_identity;
-    let mut entered = memory.entered;
-    let step = port::message(
-        port,
-        side,
-        bytes,
-        &mut svids,
-        &mut modes,
-        &mut identity,
-        lent(&mut run, memory.run_words),
-        &mut held_svids,
-        &mut held_modes,
-        &mut held_identity,
-        lent(&mut held_run, memory.held_words),
-        &mut entered,
-    );
-    Heard {
-        step,
-        memory: Memory {
-            run,
-            held_run,
-            svids,
-            modes,
-            identity,
-            held_svids,
-            held_modes,
-            held_identity,
-            entered,
-            ..memory
-        },
-    }
-}
-
-// A message from the side.
-pub fn hear(owner: Owner, side: Side, bytes: &[u8]) -> Turn {
-    let heard = hear_with(owner.port, side, memory_of(owner, side), bytes);
-    let step = heard.step;
-    let port = step.port;
-    let owner = with_memory(owner, side, heard.memory);
-    Turn {
-        step,
-        owner: Owner { port, ..owner },
-    }
-}
-
-// A call that is no message changes nothing but the port.
-pub fn make(owner: Owner, side: Side, call: Call, out: &mut [u8]) -> Turn {
-    let memory = memory_of(owner, side);
-    let run = memory.run;
-    let held_run = memory.held_run;
-    let svids = memory.svids;
-    let held_svids = memory.held_svids;
-    let held_modes = memory.held_modes;
-    let entered = memory.entered;
-    let step = make_call(
-        owner.port,
-        side,
-        call,
-        &svids,
-        shown(&run, memory.run_words),
-        &held_svids,
-        &held_modes,
-        shown(&held_run, memory.held_words),
-        &entered,
-        out,
-    );
-    let port = step.port;
-    Turn {
-        step,
-        owner: Owner { port, ..owner },
-    }
-}
-
-// How many modes of the SVID are entered on the side.
-pub fn report(owner: Owner, side: Side, svid: u16) -> u32 {
-    let memory = memory_of(owner, side);
-    let held_svids = memory.held_svids;
-    let entered = memory.entered;
-    port::report(owner.port, side, svid, &held_svids, &entered)
-}
-
-// Writes the catalogue that the side holds.
-pub fn write_held(owner: Owner, side: Side, out: &mut [u8]) -> Bytes {
-    let memory = memory_of(owner, side);
-    let held_run = memory.held_run;
-    let held_svids = memory.held_svids;
-    let held_modes = memory.held_modes;
-    let held_identity = memory.held_identity;
-    write_catalogue(
-        owner.port,
-        side,
-        &held_svids,
-        &held_modes,
-        &held_identity,
-        shown(&held_run, memory.held_words),
-        out,
-    )
 }

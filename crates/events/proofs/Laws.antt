@@ -11,28 +11,34 @@ use Rattle.port.specs.declared.Side.{Side}
 use Rattle.port.specs.declared.Side.TheVariants.{Partner, Cable}
 use Rattle.events.specs.Events.{is_message, names_mode, says_side, without_side, is_known, partners_length, body_length, mode_in, call_of, event_on, event_of, event_in}
 use Rattle.events.specs.declared.Event.{Event}
-use Rattle.events.specs.declared.Found.{Found}
-use Rattle.events.specs.declared.Found.TheVariants.{Whole, Unknown, Cut}
+use Rattle.events.specs.declared.Missing.{Missing}
+use Rattle.events.specs.declared.Missing.TheVariants.{Unknown, Cut}
+use Rattle.std.specs.Prelude.{Result, Ok, Err}
 use Rattle.events.proofs.Bodies.{length_most}
 use Rattle.events.proofs.Sides.{side_partner, side_cable, without_partner, without_cable, known_cable}
 
 -- a result that the promise allows is the only one
-pub read_only : (bytes : List ℕ) (r r' : Found) → r ≡ event_in bytes → r' ≡ event_in bytes → r ≡ r'
+pub read_only : (bytes : List ℕ) (r r' : Result (Event × ℕ) Missing) → r ≡ event_in bytes → r' ≡ event_in bytes → r ≡ r'
 read_only bytes r r' e e' = e ∙ sym e'
 
+-- what the two tests of a kind lead to
+abbrev outcome : (known fits : Bool) → Event → ℕ → Result (Event × ℕ) Missing
+outcome known fits event n = cond known (cond fits (Ok (event, n)) (Err Cut)) (Err Unknown)
+
 -- an event has at least its kind, at most a message of seven objects, and lies within the bytes
-pub whole_length : (bytes : List ℕ) (event : Event) (n : ℕ) → event_in bytes ≡ Whole event n → (1 ≤ n) × (n ≤ 29) × (n ≤ length bytes)
+pub whole_length : (bytes : List ℕ) (event : Event) (n : ℕ) → event_in bytes ≡ Ok (event, n) → (1 ≤ n) × (n ≤ 29) × (n ≤ length bytes)
 unfolding body_length event_in
-whole_length [] event n e = absurd (let z : ◌≡◌ {A = ℕ} 0 1 = cc in omega arith)
+whole_length [] event n e = cc
 whole_length (kind ∷ rest) event n e = go (is_known kind) (leb (body_length kind) (length rest)) refl e
   where
     go : (known fits : Bool) → leb (body_length kind) (length rest) ≡ fits →
-        cond known (cond fits (Whole (event_of kind rest) (1 + body_length kind)) Cut) Unknown ≡ Whole event n →
+        outcome known fits (event_of kind rest) (1 + body_length kind) ≡ Ok (event, n) →
         (1 ≤ n) × (n ≤ 29) × (n ≤ suc (length rest))
-    go false fits t h = absurd (let z : ◌≡◌ {A = ℕ} 0 1 = cc in omega arith)
-    go true false t h = absurd (let z : ◌≡◌ {A = ℕ} 0 1 = cc in omega arith)
+    go false fits t h = cc
+    go true false t h = cc
     go true true t h =
-        let size : 1 + body_length kind ≡ n = cc in
+        let whole : ◌≡◌ {A = Event × ℕ} (event_of kind rest, 1 + body_length kind) (event, n) = cc in
+        let size = ap (λ (found : Event × ℕ). found.1) whole in
         let most = length_most (without_side kind) in
         let within = leb-true (body_length kind) (length rest) t in
         (omega arith, omega arith, omega arith)
@@ -56,31 +62,31 @@ event_more : (kind : ℕ) (body more : List ℕ) → body_length kind ≤ length
 unfolding body_length event_on event_of
 event_more kind body more h = simp (call_more (without_side kind) body more h)
 
-pub whole_more : (bytes more : List ℕ) (event : Event) (n : ℕ) → event_in bytes ≡ Whole event n → event_in (bytes ++ more) ≡ event_in bytes
+pub whole_more : (bytes more : List ℕ) (event : Event) (n : ℕ) → event_in bytes ≡ Ok (event, n) → event_in (bytes ++ more) ≡ event_in bytes
 unfolding event_in
-whole_more [] more event n e = absurd (let z : ◌≡◌ {A = ℕ} 0 1 = cc in omega arith)
+whole_more [] more event n e = cc
 whole_more (kind ∷ rest) more event n e = go (is_known kind) (leb (body_length kind) (length rest)) refl refl e
   where
     go : (known fits : Bool) → is_known kind ≡ known → leb (body_length kind) (length rest) ≡ fits →
-        cond known (cond fits (Whole (event_of kind rest) (1 + body_length kind)) Cut) Unknown ≡ Whole event n →
+        outcome known fits (event_of kind rest) (1 + body_length kind) ≡ Ok (event, n) →
         event_in (kind ∷ (rest ++ more)) ≡ event_in (kind ∷ rest)
-    go false fits k t h = absurd (let z : ◌≡◌ {A = ℕ} 0 1 = cc in omega arith)
-    go true false k t h = absurd (let z : ◌≡◌ {A = ℕ} 0 1 = cc in omega arith)
+    go false fits k t h = cc
+    go true false k t h = cc
     go true true k t h =
         let within = leb-true (body_length kind) (length rest) t in
         simp (k, t, le-leb (body_length kind) (length (rest ++ more)) (omega (arith, length-append rest more)), event_more kind rest more within)
 
-pub unknown_more : (bytes more : List ℕ) → event_in bytes ≡ Unknown → event_in (bytes ++ more) ≡ event_in bytes
+pub unknown_more : (bytes more : List ℕ) → event_in bytes ≡ Err Unknown → event_in (bytes ++ more) ≡ event_in bytes
 unfolding event_in
-unknown_more [] more e = absurd (let z : ◌≡◌ {A = ℕ} 0 1 = cc in omega arith)
+unknown_more [] more e = cc
 unknown_more (kind ∷ rest) more e = go (is_known kind) (leb (body_length kind) (length rest)) refl e
   where
     go : (known fits : Bool) → is_known kind ≡ known →
-        cond known (cond fits (Whole (event_of kind rest) (1 + body_length kind)) Cut) Unknown ≡ Unknown →
+        outcome known fits (event_of kind rest) (1 + body_length kind) ≡ Err Unknown →
         event_in (kind ∷ (rest ++ more)) ≡ event_in (kind ∷ rest)
     go false fits k h = rw k
-    go true true k h = absurd (let z : ◌≡◌ {A = ℕ} 0 1 = cc in omega arith)
-    go true false k h = absurd (let z : ◌≡◌ {A = ℕ} 0 1 = cc in omega arith)
+    go true true k h = cc
+    go true false k h = cc
 
 -- a cable's kind is a partner's that says a side, with 0x80 added, and its event is the same on the other side
 without_added : (kind : ℕ) → without_side (0x80 + kind) ≡ kind

@@ -1,5 +1,5 @@
 -- Laptop events as bytes: one byte of kind, then a body whose length the kind fixes (01, "Catalogue bytes and the watcher program"; 02, R-4).
-use Rattle.std.specs.Prelude.{ℕ, ◌+◌, ◌-◌, ◌*◌, ◌^◌, Bool, cond, ◌&&◌, ◌||◌, List, [], ◌∷◌, leb, eqb, length, get_or}
+use Rattle.std.specs.Prelude.{ℕ, ◌+◌, ◌-◌, ◌*◌, ◌^◌, Bool, cond, ◌&&◌, ◌||◌, List, [], ◌∷◌, leb, eqb, length, get_or, Result, Ok, Err}
 use Rattle.port.specs.declared.Side.{Side}
 use Rattle.port.specs.declared.Side.TheVariants.{Partner, Cable}
 use Rattle.events.specs.declared.Call.{Call}
@@ -7,8 +7,8 @@ use Rattle.events.specs.declared.Call.TheVariants.{Next, StartOver, Drop, Respon
 use Rattle.events.specs.declared.Event.{Event}
 use Rattle.events.specs.declared.Event.TheVariants.{Message}
 use Rattle.events.specs.declared.Event.TheVariants.{Call as EventCall}
-use Rattle.events.specs.declared.Found.{Found}
-use Rattle.events.specs.declared.Found.TheVariants.{Whole, Unknown, Cut, Nothing}
+use Rattle.events.specs.declared.Missing.{Missing}
+use Rattle.events.specs.declared.Missing.TheVariants.{Unknown, Cut, Nothing}
 use Rattle.events.specs.declared.Mode.{Mode}
 
 -- the partner's kinds: 0x01..0x07 a message of that many objects
@@ -68,10 +68,10 @@ event_on side kind body = cond (is_message kind) (Message side kind) (EventCall 
 unfoldable pub event_of : ℕ → List ℕ → Event
 event_of kind body = event_on (side_of kind) (without_side kind) body
 
--- what stands first among bytes: a whole event and the number of its bytes, an unknown kind, a cut body, or nothing
-unfoldable pub event_in : List ℕ → Found
-event_in [] = Nothing
+-- what stands first among bytes: a whole event and the number of its bytes, or an unknown kind, a cut body, or nothing
+unfoldable pub event_in : List ℕ → Result (Event × ℕ) Missing
+event_in [] = Err Nothing
 event_in (kind ∷ rest) =
     cond (is_known kind)
-    (cond (leb (body_length kind) (length rest)) (Whole (event_of kind rest) (1 + body_length kind)) Cut)
-    Unknown
+    (cond (leb (body_length kind) (length rest)) (Ok (event_of kind rest, 1 + body_length kind)) (Err Cut))
+    (Err Unknown)

@@ -5,23 +5,19 @@ ghost use Rattle.events.specs.Events.{partners_length, mode_in, call_of};
 use crate::kinds::{DROP, ENTER, ENTRY_TIMER, EXIT, EXIT_TIMER, NEXT, RESPONSE_TIMER, START_OVER};
 use crate::{Call, Mode};
 
-fn half_of(low: u8, high: u8) -> u16
-    ensures { result ≡ low + high * 2 ^ 8 }
-{
-    (low as u16) + (high as u16) * 256
-}
-
+#[tactic(auto, unfolding(crate::specs::Events::mode_in))]
 fn mode_in(bytes: &[u8]) -> Mode
     requires { 4 ≤ length bytes.now }
     ensures { result ≡ mode_in (drop 1 bytes.now) }
 {
     Mode {
-        svid: half_of(bytes[1], bytes[2]),
+        svid: u16::from_le_bytes([bytes[1], bytes[2]]),
         position: bytes[3],
     }
 }
 
 // Of a partner's kind, which is known and no message's: what is left is the protocol error.
+#[tactic(auto, unfolding(crate::specs::Events::call_of, crate::specs::Events::partners_length, crate::specs::Events::is_message, crate::specs::Events::names_mode))]
 pub(crate) fn call_of(kind: u8, bytes: &[u8]) -> Call
     requires { 1 + partners_length kind ≤ length bytes.now }
     ensures { result ≡ call_of kind (drop 1 bytes.now) }

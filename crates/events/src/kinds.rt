@@ -35,90 +35,76 @@ pub(crate) const ENTER: u8 = 0x47;
 pub(crate) const EXIT: u8 = 0x48;
 
 // Of a partner's kind.
+#[tactic(auto, unfolding(crate::specs::Events::is_message))]
 pub(crate) fn is_message(kind: u8) -> bool
     ensures { result ≡ is_message kind }
 {
-    if kind < 1 {
-        return false;
-    }
-    kind <= MOST_OBJECTS
+    matches!(kind, 1..=MOST_OBJECTS)
 }
 
+#[tactic(auto, unfolding(crate::specs::Events::names_mode))]
 fn names_mode(kind: u8) -> bool
     ensures { result ≡ names_mode kind }
 {
-    if kind < ENTER {
-        return false;
-    }
-    kind <= EXIT
+    matches!(kind, ENTER..=EXIT)
 }
 
 // Is a partner's kind one that the cable has too?
+#[tactic(auto, unfolding(crate::specs::Events::says_side))]
 fn says_side(kind: u8) -> bool
     ensures { result ≡ says_side kind }
 {
-    if is_message(kind) {
-        return true;
-    }
-    if names_mode(kind) {
-        return true;
-    }
-    if kind < NEXT {
-        return false;
-    }
-    kind <= DROP
+    is_message(kind) || matches!(kind, NEXT..=DROP) || names_mode(kind)
 }
 
+#[tactic(auto, unfolding(crate::specs::Events::is_partners))]
 fn is_partners(kind: u8) -> bool
     ensures { result ≡ is_partners kind }
 {
-    if says_side(kind) {
-        return true;
-    }
-    if kind < RESPONSE_TIMER {
-        return false;
-    }
-    kind <= PROTOCOL_ERROR
+    says_side(kind) || matches!(kind, RESPONSE_TIMER..=PROTOCOL_ERROR)
 }
 
+#[tactic(auto, unfolding(crate::specs::Events::side_of))]
 pub fn side_of(kind: u8) -> Side
     ensures { result ≡ side_of kind }
 {
     if kind < CABLE {
-        return Side::Partner;
+        Side::Partner
+    } else {
+        Side::Cable
     }
-    Side::Cable
 }
 
 // The partner's kind that a kind is, or is with its side added.
+#[tactic(auto, unfolding(crate::specs::Events::without_side))]
 pub fn without_side(kind: u8) -> u8
     ensures { result ≡ without_side kind }
 {
-    if kind < CABLE {
-        return kind;
-    }
-    kind - CABLE
+    if kind < CABLE { kind } else { kind - CABLE }
 }
 
+#[tactic(auto, unfolding(crate::specs::Events::is_known))]
 pub(crate) fn is_known(kind: u8) -> bool
     ensures { result ≡ is_known kind }
 {
     if kind < CABLE {
-        return is_partners(kind);
+        is_partners(kind)
+    } else {
+        says_side(without_side(kind))
     }
-    says_side(without_side(kind))
 }
 
 // How many bytes the body of a kind has, 0 where the kind is unknown.
+#[tactic(auto, unfolding(crate::specs::Events::body_length, crate::specs::Events::partners_length, crate::specs::Events::is_message))]
 pub fn body_length(kind: u8) -> usize
     ensures { (result ≡ body_length kind) × (result ≤ 28) }
 {
     let partners = without_side(kind);
     if is_message(partners) {
-        return (partners as usize) * OBJECT_BYTES;
+        usize::from(partners) * OBJECT_BYTES
+    } else if names_mode(partners) {
+        MODE_BYTES
+    } else {
+        0
     }
-    if names_mode(partners) {
-        return MODE_BYTES;
-    }
-    0
 }

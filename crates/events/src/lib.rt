@@ -41,15 +41,15 @@ pub enum Event {
     Call(Side, Call),
 }
 
-// What stands first among bytes: a whole event and the number of its bytes, the kind counted; a kind that there is not; a body that is cut.
+// Why no whole event stands first among bytes: they have a kind that there is not, or a body that is cut, or there are none.
 #[derive(Clone, Copy)]
-pub enum Found {
-    Whole(Event, usize),
+pub enum Missing {
     Unknown,
     Cut,
     Nothing,
 }
 
+#[tactic(auto, unfolding(crate::specs::Events::event_of, crate::specs::Events::event_on, crate::specs::Events::body_length))]
 fn event_of(kind: u8, bytes: &[u8]) -> Event
     requires { 1 + body_length kind ≤ length bytes.now }
     ensures { result ≡ event_of kind (drop 1 bytes.now) }
@@ -57,24 +57,26 @@ fn event_of(kind: u8, bytes: &[u8]) -> Event
     let side = side_of(kind);
     let partners = without_side(kind);
     if is_message(partners) {
-        return Event::Message(side, partners);
+        Event::Message(side, partners)
+    } else {
+        Event::Call(side, call_of(partners, bytes))
     }
-    Event::Call(side, call_of(partners, bytes))
 }
 
-pub fn read_event(bytes: &[u8]) -> Found
+// The event that stands first among bytes, and the number of its bytes, the kind counted.
+#[tactic(auto, unfolding(crate::specs::Events::event_in))]
+pub fn read_event(bytes: &[u8]) -> Result<(Event, usize), Missing>
     ensures { result ≡ event_in bytes.now }
 {
-    if bytes.len() == 0 {
-        return Found::Nothing;
-    }
-    let kind = bytes[0];
+    let Some(&kind) = bytes.first() else {
+        return Err(Missing::Nothing);
+    };
     if !is_known(kind) {
-        return Found::Unknown;
+        return Err(Missing::Unknown);
     }
     let length = 1 + body_length(kind);
     if bytes.len() < length {
-        return Found::Cut;
+        return Err(Missing::Cut);
     }
-    Found::Whole(event_of(kind, bytes), length)
+    Ok((event_of(kind, bytes), length))
 }

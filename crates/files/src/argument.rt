@@ -16,11 +16,11 @@ pub fn argument_count(rt: &HostRuntime) -> usize {
     usize::MAX
 }
 
-// Puts the argument at the start of the room and answers its length; one that is too long is cut, and fills the room.
-pub fn argument(rt: &HostRuntime, index: usize, room: &mut [u8]) -> usize {
+// Puts the argument at the start of the room and answers it; one that is too long is cut, and fills the room.
+pub fn argument<'a>(rt: &HostRuntime, index: usize, room: &'a mut [u8]) -> &'a [u8] {
     match rt.arg(index, room) {
-        Ok(length) => length,
-        Err(FillError::TooLong) => room.len(),
-        Err(FillError::NotPresent) => 0,
+        Ok(length) => &room[..length],
+        Err(FillError::TooLong) => room,
+        Err(FillError::NotPresent) => &[],
     }
 }

@@ -1,14 +1,17 @@
 // Lines that name an argument, or a file whose name is made of one.
 use crate::argument::ROOM;
-use std::io::{Error, Write};
-use streams::input::first_bytes;
-use text::line::{append, end_line, put};
+use std::fmt::Write;
+use std::io::Error;
+use text::line::Line;
 
-// The longest of the sentences before an argument, and the line end.
-const SENTENCE: usize = 14;
+// The longest of the sentences before an argument, the argument, and the line end.
+const LONGEST: usize = 14 + ROOM;
 
 // The longest of the endings behind an argument: `.partial.unfinished`.
-pub const ENDING: usize = 19;
+const ENDING: usize = 19;
+
+// Room for an argument with any ending, so that no name is cut to that of another file.
+pub const NAME_ROOM: usize = ROOM + ENDING;
 
 // The number of standard error among the open files.
 pub const STDERR: i32 = 2;
@@ -17,68 +20,50 @@ pub const STDERR: i32 = 2;
 const REASON: usize = 300;
 
 // A byte that could end the line, or do more to a terminal than show itself, is shown as a question mark.
-fn shown(byte: u8) -> u8 {
-    match byte {
-        0..=31 | 127 => b'?',
-        _ => byte,
+fn add_shown<const N: usize>(line: &mut Line<N>, text: &[u8]) {
+    for byte in text {
+        line.byte(if byte.is_ascii_control() { b'?' } else { *byte });
     }
-}
-
-fn append_shown(line: &mut [u8], at: usize, text: &[u8]) -> usize {
-    let mut end = at;
-    let mut index = 0;
-    while index < text.len() {
-        end = put(line, end, shown(text[index]));
-        index += 1;
-    }
-    end
 }
 
 // What is wrong, and the argument with which it is.
 pub fn print_named(sentence: &[u8], argument: &[u8]) {
-    let mut line = [0u8; SENTENCE + ROOM];
-    let at = append(&mut line, 0, sentence);
-    let at = append_shown(&mut line, at, argument);
-    end_line(&mut line, at);
+    let mut line: Line<LONGEST> = Line::new();
+    line.text(sentence);
+    add_shown(&mut line, argument);
+    line.print_line();
 }
 
 // The words of the error without the number that the library puts behind those of the system.
 fn without_number(words: &[u8]) -> &[u8] {
-    let mut end = words.len();
-    while 1 < end {
-        end -= 1;
-        if words[end] == b'(' {
-            return first_bytes(words, end - 1);
-        }
+    match words.iter().rposition(|byte| *byte == b'(') {
+        Some(at) if 0 < at => &words[..at - 1],
+        _ => words,
     }
-    words
 }
 
-// Puts the error's words at the start of the room and answers their length.
-fn put_words(error: Error, room: &mut [u8]) -> usize {
-    let most = room.len();
-    let mut rest: &mut [u8] = room;
-    match write!(rest, "{error}") {
-        Ok(()) => most.saturating_sub(rest.len()),
-        Err(_) => 0,
+// What the error says, or nothing where there is no room for that.
+fn words_of(error: &Error) -> Line<REASON> {
+    let mut words = Line::new();
+    match write!(words, "{error}") {
+        Ok(()) => words,
+        Err(_) => Line::new(),
     }
 }
 
 fn print_reason(error: Error) {
-    let mut room = [0u8; REASON];
-    let end = put_words(error, &mut room);
-    let words = first_bytes(&room, end);
+    let words = words_of(&error);
     match error.raw_os_error() {
-        Some(_) => io::write_all(STDERR, without_number(words)),
-        None => io::write_all(STDERR, words),
+        Some(_) => io::write_all(STDERR, without_number(words.said())),
+        None => io::write_all(STDERR, words.said()),
     };
 }
 
 // Says on standard error why a call failed, behind the name of its file: the reason is the system's, but for a name that no path can be.
 pub fn say_reason(name: &[u8], error: Error) {
-    let mut text = [0u8; ROOM + ENDING];
-    let end = append_shown(&mut text, 0, name);
-    io::write_all(STDERR, first_bytes(&text, end));
+    let mut text: Line<NAME_ROOM> = Line::new();
+    add_shown(&mut text, name);
+    io::write_all(STDERR, text.said());
     io::write_all(STDERR, b": ");
     print_reason(error);
     io::write_all(STDERR, b"\n");

@@ -2,8 +2,5 @@
 use std::io::{Error, ErrorKind};
 
 pub fn path_of(name: &[u8]) -> Result<&str, Error> {
-    match str::from_utf8(name) {
-        Ok(path) => Ok(path),
-        Err(_) => Err(Error::new(ErrorKind::InvalidInput, "The name is not UTF-8")),
-    }
+    str::from_utf8(name).map_err(|_| Error::new(ErrorKind::InvalidInput, "The name is not UTF-8"))
 }

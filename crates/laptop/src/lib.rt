@@ -24,7 +24,7 @@ pub enum Candidate {
 }
 
 // How many identity objects (the extent) and SVIDs (the count) a catalogue has.
-#[derive(Clone, Copy)]
+#[derive(Clone, Copy, PartialEq, Eq)]
 pub struct Size {
     pub extent: u8,
     pub count: u8,

@@ -1,12 +1,10 @@
 // The events, and reading one from standard input.
-ghost use Rattle.std.specs.Prelude.{◌≤◌};
-
 use driving::calls::take_call;
 use driving::owning::RUN;
 use events::{Call, side_of, without_side};
 use port::Side;
-use streams::finish::Turn;
-use streams::input::{Byte, fill, half_of, length_of, read_byte};
+use streams::finish::Stop;
+use streams::input::{fill, read_byte, read_bytes};
 
 // The partner's kinds of event. From FIRST_CALL to LAST_CALL they are those of the watcher. All but the timers and the protocol error say a side: the
 // cable's are the same with their side added.
@@ -37,102 +35,58 @@ pub struct Lengths {
     pub held_run: usize,
 }
 
-// A message has its number of bytes, a report its SVID, writing the catalogue the length of its output buffer.
+// A message has its bytes, a report its SVID, writing the catalogue the length of its output buffer.
 #[derive(Clone, Copy)]
-pub enum Event {
-    Message(usize),
+pub enum Event<'a> {
+    Message(&'a [u8]),
     Call(Call),
     Report(u16),
     Catalogue(usize),
     Lengths(Lengths),
 }
 
-// The event that stood next, with its side, or the turn without one.
-#[derive(Clone, Copy)]
-pub enum Taken {
-    Whole(Side, Event),
-    Without(Turn),
+fn take_byte() -> Result<u8, Stop> {
+    read_byte().ok_or(Stop::Cut)
 }
 
-pub fn at_most(number: usize, most: usize) -> usize
-    ensures { result ≤ most }
-{
-    if number < most { number } else { most }
+fn take_half() -> Result<u16, Stop> {
+    Ok(u16::from_le_bytes(read_bytes()?))
 }
 
-fn take_message(side: Side, message: &mut [u8]) -> Taken {
-    let Byte::Read(length) = read_byte() else {
-        return Taken::Without(Turn::Cut);
-    };
-    let count = at_most(length_of(length), message.len());
-    if !fill(&mut message[0..count]) {
-        return Taken::Without(Turn::Cut);
-    }
-    Taken::Whole(side, Event::Message(count))
+fn take_length(most: usize) -> Result<usize, Stop> {
+    Ok(usize::from(take_half()?).min(most))
 }
 
-fn take_report(side: Side) -> Taken {
-    let mut svid = [0u8; 2];
-    if !fill(&mut svid) {
-        return Taken::Without(Turn::Cut);
-    }
-    Taken::Whole(side, Event::Report(half_of(svid[0], svid[1])))
+fn take_message(message: &mut [u8]) -> Result<Event<'_>, Stop> {
+    let length = usize::from(take_byte()?).min(message.len());
+    let bytes = &mut message[..length];
+    fill(bytes)?;
+    Ok(Event::Message(bytes))
 }
 
-fn length_in(low: u8, high: u8, most: usize) -> usize {
-    at_most(half_of(low, high) as usize, most)
+fn take_lengths() -> Result<Lengths, Stop> {
+    Ok(Lengths {
+        output: take_byte()?,
+        run: take_length(RUN)?,
+        held_run: take_length(RUN)?,
+    })
 }
 
-fn take_catalogue(side: Side) -> Taken {
-    let mut room = [0u8; 2];
-    if !fill(&mut room) {
-        return Taken::Without(Turn::Cut);
-    }
-    Taken::Whole(
-        side,
-        Event::Catalogue(length_in(room[0], room[1], CATALOGUE_ROOM)),
-    )
-}
-
-fn take_lengths(side: Side) -> Taken {
-    let mut bytes = [0u8; 5];
-    if !fill(&mut bytes) {
-        return Taken::Without(Turn::Cut);
-    }
-    let lengths = Lengths {
-        output: bytes[0],
-        run: length_in(bytes[1], bytes[2], RUN),
-        held_run: length_in(bytes[3], bytes[4], RUN),
-    };
-    Taken::Whole(side, Event::Lengths(lengths))
-}
-
-fn take_watcher_call(kind: u8) -> Taken {
-    match take_call(kind) {
-        driving::calls::Taken::Whole(side, call) => Taken::Whole(side, Event::Call(call)),
-        driving::calls::Taken::Without(turn) => Taken::Without(turn),
-    }
-}
-
-fn take_body(kind: u8, message: &mut [u8; LONGEST_MESSAGE]) -> Taken {
-    let side = side_of(kind);
+fn take_body(kind: u8, message: &mut [u8]) -> Result<Event<'_>, Stop> {
     match without_side(kind) {
-        MESSAGE => take_message(side, message),
-        FIRST_CALL..=LAST_CALL => take_watcher_call(kind),
-        REPORT => take_report(side),
-        CATALOGUE => take_catalogue(side),
-        LENGTHS => take_lengths(side),
-        _ => Taken::Without(Turn::Unknown),
+        MESSAGE => take_message(message),
+        FIRST_CALL..=LAST_CALL => Ok(Event::Call(take_call(kind)?)),
+        REPORT => Ok(Event::Report(take_half()?)),
+        CATALOGUE => Ok(Event::Catalogue(take_length(CATALOGUE_ROOM)?)),
+        LENGTHS => Ok(Event::Lengths(take_lengths()?)),
+        _ => Err(Stop::Unknown),
     }
 }
 
-// The bytes of a message are put first into the array.
-pub fn take_event(message: &mut [u8; LONGEST_MESSAGE]) -> Taken {
-    let Byte::Read(kind) = read_byte() else {
-        return Taken::Without(Turn::Ended);
-    };
-    if kind == NEW_STREAM {
-        return Taken::Without(Turn::NewStream);
+// The event that stands next, with its side. The bytes of a message are put into the buffer.
+pub fn take_event(message: &mut [u8]) -> Result<(Side, Event<'_>), Stop> {
+    match read_byte().ok_or(Stop::Ended)? {
+        NEW_STREAM => Err(Stop::NewStream),
+        kind => Ok((side_of(kind), take_body(kind, message)?)),
     }
-    take_body(kind, message)
 }

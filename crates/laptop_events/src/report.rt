@@ -1,108 +1,91 @@
 // The line that an event gets: the number of its stream, its own in that stream, its side, what the call led to, what the side's laptop and its runs have come to,
 // what was read, and what the other side's laptop has come to.
-use crate::answering::{Answer, Catalogue, Outcome, Output, Report};
+use crate::answering::Answer;
 use driving::digest::of_words;
 use driving::fields::{
-    place, with_awaited, with_candidate, with_digest, with_held, with_nothing, with_number,
-    with_part, with_request, with_side,
+    add_awaited, add_candidate, add_held, add_outcome, add_part, add_request, add_side, begin_line,
 };
-use driving::line::{Line, print, with_bytes, with_edition, with_half, with_text, with_word};
-use driving::owning::{Memory, memory_of, other};
+use driving::line::Line;
+use driving::owning::{Memory, Owner, other};
 use laptop::{Laptop, Notice, Told};
 use messages::Request;
-use port::seen;
-use streams::input::first_bytes;
 
-fn with_sent(line: Line, sent: &[u8], length: u8) -> Line {
-    let end = length as usize;
-    if end == 0 {
-        return with_nothing(line);
-    }
-    with_bytes(with_text(line, b" "), first_bytes(sent, end))
-}
-
-fn with_output(line: Line, output: Output) -> Line {
-    match output {
-        Output::Nothing => with_nothing(line),
-        Output::Digest(digest) => with_digest(line, digest),
+fn add_word(line: &mut Line, word: Option<u32>) {
+    match word {
+        Some(word) => line.spaced_word(word),
+        None => line.nothing(),
     }
 }
 
-fn with_attention(line: Line, notice: Notice) -> Line {
-    let line = with_half(with_text(line, b" attention:"), notice.svid);
-    let line = with_part(with_part(line, notice.position), notice.count);
-    with_word(with_text(line, b":"), notice.object)
+fn add_attention(line: &mut Line, notice: Notice) {
+    line.text(b" attention:");
+    line.half(notice.svid);
+    add_part(line, notice.position);
+    add_part(line, notice.count);
+    line.byte(b':');
+    line.word(notice.object);
 }
 
-fn with_unmarked(line: Line, reason: &[u8], request: Request) -> Line {
-    with_request(with_text(line, reason), request)
+fn add_unmarked(line: &mut Line, reason: &[u8], request: Request) {
+    line.text(reason);
+    add_request(line, request);
 }
 
-fn with_told(line: Line, told: Told) -> Line {
+fn add_told(line: &mut Line, told: Told) {
     match told {
-        Told::Nothing => with_nothing(line),
-        Told::Attention(notice) => with_attention(line, notice),
-        Told::Nak(request) => with_unmarked(line, b" nak:", request),
-        Told::Busy(request) => with_unmarked(line, b" busy:", request),
-        Told::Timer(request) => with_unmarked(line, b" timer:", request),
-        Told::ProtocolError(request) => with_unmarked(line, b" error:", request),
+        Told::Nothing => line.nothing(),
+        Told::Attention(notice) => add_attention(line, notice),
+        Told::Nak(request) => add_unmarked(line, b" nak:", request),
+        Told::Busy(request) => add_unmarked(line, b" busy:", request),
+        Told::Timer(request) => add_unmarked(line, b" timer:", request),
+        Told::ProtocolError(request) => add_unmarked(line, b" error:", request),
     }
 }
 
-fn with_step(line: Line, answer: Answer) -> Line {
-    let side = answer.side;
-    let sent = answer.sent;
-    let output = answer.output;
-    let told = answer.told;
-    let line = with_number(with_side(line, side), answer.refusal as u64);
-    let line = with_sent(line, &sent, answer.length);
-    with_told(with_output(line, output), told)
+fn add_step(line: &mut Line, answer: &Answer) {
+    add_side(line, answer.side);
+    add_outcome(line, answer.outcome);
+    add_word(line, answer.sent);
+    add_word(line, answer.output);
+    add_told(line, answer.told);
 }
 
-fn with_laptop(line: Line, laptop: Laptop) -> Line {
-    let held = laptop.held;
-    let edition = laptop.edition;
-    let line = with_candidate(line, laptop);
-    let line = with_held(with_number(line, laptop.pages as u64), held);
-    with_edition(line, edition)
+fn add_laptop(line: &mut Line, laptop: Laptop) {
+    add_candidate(line, laptop);
+    line.field(laptop.pages);
+    add_held(line, laptop.held);
+    line.edition(u8::from(laptop.edition));
 }
 
-fn with_runs(line: Line, memory: Memory) -> Line {
-    let run = memory.run;
-    let held_run = memory.held_run;
-    with_digest(with_digest(line, of_words(&run)), of_words(&held_run))
-}
-
-fn with_catalogue(line: Line, catalogue: Catalogue) -> Line {
-    let Catalogue::Written(length, digest) = catalogue else {
-        return with_nothing(line);
-    };
-    let line = with_number(line, length as u64);
-    with_word(with_text(line, b":"), digest)
-}
-
-fn with_report(line: Line, report: Report) -> Line {
-    let Report::Entered(count) = report else {
-        return with_nothing(line);
-    };
-    with_number(line, count as u64)
+fn add_runs(line: &mut Line, memory: &Memory) {
+    line.spaced_word(of_words(&memory.run));
+    line.spaced_word(of_words(&memory.held_run));
 }
 
 // What was read of a side.
-fn with_readings(line: Line, answer: Answer) -> Line {
-    let catalogue = answer.catalogue;
-    let report = answer.report;
-    with_report(with_catalogue(line, catalogue), report)
+fn add_readings(line: &mut Line, answer: &Answer) {
+    match answer.catalogue {
+        Some((length, digest)) => {
+            line.field(length);
+            line.byte(b':');
+            line.word(digest);
+        }
+        None => line.nothing(),
+    }
+    match answer.report {
+        Some(count) => line.field(count),
+        None => line.nothing(),
+    }
 }
 
-pub fn print_event(stream: u64, number: u64, outcome: Outcome) {
-    let answer = outcome.answer;
+pub fn print_event(stream: u64, number: u64, answer: &Answer, owner: &Owner) {
     let side = answer.side;
-    let owner = outcome.state.owner;
-    let port = owner.port;
-    let wait = port.wait;
-    let line = with_awaited(with_step(place(stream, number), answer), wait);
-    let line = with_runs(with_laptop(line, seen(side, port)), memory_of(owner, side));
-    let line = with_readings(line, answer);
-    print(with_laptop(line, seen(other(side), port)));
+    let mut line = begin_line(stream, number);
+    add_step(&mut line, answer);
+    add_awaited(&mut line, owner.port.wait);
+    add_laptop(&mut line, owner.laptop(side));
+    add_runs(&mut line, owner.memory(side));
+    add_readings(&mut line, answer);
+    add_laptop(&mut line, owner.laptop(other(side)));
+    line.print_line();
 }

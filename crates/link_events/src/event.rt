@@ -2,8 +2,8 @@
 use driving::calls::take_call;
 use events::{Call, side_of, without_side};
 use port::Side;
-use streams::finish::Turn;
-use streams::input::{Byte, read_byte};
+use streams::finish::Stop;
+use streams::input::read_byte;
 
 // The partner's kinds of event. The laptop's calls have those of the watcher. All but the timer and the protocol error say a side: the cable's are the same
 // with their side added.
@@ -46,53 +46,28 @@ pub enum Event {
     Linked(linking::Event),
 }
 
-// The event that stood next, with the side that it says, or the turn without one.
-#[derive(Clone, Copy)]
-pub enum Taken {
-    Whole(Side, Event),
-    Without(Turn),
-}
-
-fn take_laptop_call(kind: u8) -> Taken {
-    match take_call(kind) {
-        driving::calls::Taken::Whole(side, call) => Taken::Whole(side, Event::Call(call)),
-        driving::calls::Taken::Without(turn) => Taken::Without(turn),
-    }
-}
-
-// Of the partner's kinds from REQUEST_REACHES to FAILED.
-fn linked(kind: u8) -> linking::Event {
-    match kind {
-        REQUEST_REACHES => linking::Event::RequestReaches,
-        REQUEST_LOST => linking::Event::RequestLost,
-        GIVE => linking::Event::Give,
-        BUSY => linking::Event::Busy,
-        ANSWER_ARRIVES => linking::Event::AnswerArrives,
-        ANSWER_LOST => linking::Event::AnswerLost,
-        SENT => linking::Event::Sent,
-        _ => linking::Event::Failed,
-    }
-}
-
 // Of the kinds that say a side.
-fn take_for_side(kind: u8) -> Taken {
-    let partners = without_side(kind);
-    match partners {
-        NEXT..=DROP => take_laptop_call(kind),
-        ENTER..=EXIT => take_laptop_call(kind),
-        REQUEST_REACHES..=FAILED => Taken::Whole(side_of(kind), Event::Linked(linked(partners))),
-        _ => Taken::Without(Turn::Unknown),
+fn take_for_side(kind: u8) -> Result<Event, Stop> {
+    match without_side(kind) {
+        NEXT..=DROP | ENTER..=EXIT => Ok(Event::Call(take_call(kind)?)),
+        REQUEST_REACHES => Ok(Event::Linked(linking::Event::RequestReaches)),
+        REQUEST_LOST => Ok(Event::Linked(linking::Event::RequestLost)),
+        GIVE => Ok(Event::Linked(linking::Event::Give)),
+        BUSY => Ok(Event::Linked(linking::Event::Busy)),
+        ANSWER_ARRIVES => Ok(Event::Linked(linking::Event::AnswerArrives)),
+        ANSWER_LOST => Ok(Event::Linked(linking::Event::AnswerLost)),
+        SENT => Ok(Event::Linked(linking::Event::Sent)),
+        FAILED => Ok(Event::Linked(linking::Event::Failed)),
+        _ => Err(Stop::Unknown),
     }
 }
 
-pub fn take_event() -> Taken {
-    let Byte::Read(kind) = read_byte() else {
-        return Taken::Without(Turn::Ended);
-    };
-    match kind {
-        TIMER => Taken::Whole(Side::Partner, Event::Timer),
-        PROTOCOL_ERROR => Taken::Whole(Side::Partner, Event::ProtocolError),
-        NEW_STREAM => Taken::Without(Turn::NewStream),
-        _ => take_for_side(kind),
+// The event that stands next, with the side that it says.
+pub fn take_event() -> Result<(Side, Event), Stop> {
+    match read_byte().ok_or(Stop::Ended)? {
+        TIMER => Ok((Side::Partner, Event::Timer)),
+        PROTOCOL_ERROR => Ok((Side::Partner, Event::ProtocolError)),
+        NEW_STREAM => Err(Stop::NewStream),
+        kind => Ok((side_of(kind), take_for_side(kind)?)),
     }
 }

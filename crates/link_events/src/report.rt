@@ -1,77 +1,58 @@
 // The line that an event gets: the number of its stream, its own in that stream, its side, whether it is permitted, what its call led to, how both ends of that
 // side's link stand then, and how the other side's laptop stands.
-use crate::system::{Ends, end_at};
+use crate::system::Ends;
 use driving::digest::of_bytes;
-use driving::fields::{
-    place, with_candidate, with_digest, with_held, with_nothing, with_number, with_side,
-};
-use driving::line::{Line, print, with_edition, with_text};
-use driving::owning::{Owner, other, write_held};
+use driving::fields::{add_candidate, add_held, add_outcome, add_side, begin_line};
+use driving::line::Line;
+use driving::owning::{Owner, other};
 use laptop::Laptop;
-use linking::far_end::{FarEnd, Refusal};
-use port::{Side, seen};
+use linking::far_end::FarEnd;
+use port::Side;
 use streams::input::first_bytes;
 
 const LONGEST_CATALOGUE: usize = 2402;
 
-fn with_permitted(line: Line, is_permitted: bool) -> Line {
-    if is_permitted {
-        return with_text(line, b" permitted");
+fn add_event(line: &mut Line, far_end: &FarEnd) {
+    if far_end.is_permitted {
+        line.text(b" permitted");
+    } else {
+        line.nothing();
     }
-    with_nothing(line)
+    match far_end.outcome {
+        Some(outcome) => add_outcome(line, outcome),
+        None => line.nothing(),
+    }
 }
 
-fn with_refusal(line: Line, refusal: Refusal) -> Line {
-    match refusal {
-        Refusal::Nothing => with_nothing(line),
-        Refusal::Number(number) => with_number(line, number as u64),
-    }
+fn add_laptop(line: &mut Line, laptop: Laptop) {
+    line.field(laptop.pages);
+    add_candidate(line, laptop);
+    add_held(line, laptop.held);
 }
 
 // The digest of the bytes of the side's held catalogue.
-fn with_catalogue(line: Line, owner: Owner, side: Side) -> Line {
-    let mut buffer = [0u8; LONGEST_CATALOGUE];
-    let bytes = write_held(owner, side, &mut buffer);
-    if bytes.refusal != 0 {
-        return with_nothing(line);
+fn add_catalogue(line: &mut Line, owner: &Owner, side: Side) {
+    let mut buffer = [0; LONGEST_CATALOGUE];
+    match owner.write_held(side, &mut buffer) {
+        Ok(length) => line.spaced_word(of_bytes(first_bytes(&buffer, usize::from(length)))),
+        Err(_) => line.nothing(),
     }
-    with_digest(line, of_bytes(first_bytes(&buffer, bytes.length as usize)))
 }
 
-fn with_laptop(line: Line, laptop: Laptop) -> Line {
-    let held = laptop.held;
-    let line = with_number(line, laptop.pages as u64);
-    with_held(with_candidate(line, laptop), held)
-}
-
-fn with_far_end(line: Line, far_end: FarEnd) -> Line {
-    let line = with_number(line, far_end.dock.page as u64);
-    with_number(line, far_end.lost)
-}
-
-// The editions of a side's laptop and of its dock.
-fn with_editions(line: Line, laptop: Laptop, far_end: FarEnd) -> Line {
-    let edition = laptop.edition;
-    let dock = far_end.dock;
-    let dock_edition = dock.edition;
-    with_edition(with_edition(line, edition), dock_edition)
-}
-
-fn with_event(line: Line, far_end: FarEnd) -> Line {
-    let refusal = far_end.refusal;
-    with_refusal(with_permitted(line, far_end.is_permitted), refusal)
-}
-
-pub fn print_event(stream: u64, number: u64, ends: Ends) {
-    let side = ends.side;
-    let far_end = end_at(ends, side);
-    let owner = ends.owner;
-    let port = owner.port;
-    let line = with_event(with_side(place(stream, number), side), far_end);
-    let laptop = seen(side, port);
-    let other_laptop = seen(other(side), port);
-    let other_edition = other_laptop.edition;
-    let line = with_catalogue(with_laptop(line, laptop), owner, side);
-    let line = with_editions(with_far_end(line, far_end), laptop, far_end);
-    print(with_edition(with_laptop(line, other_laptop), other_edition));
+pub fn print_event(stream: u64, number: u64, side: Side, ends: &Ends) {
+    let far_end = ends.far_end(side);
+    let laptop = ends.owner.laptop(side);
+    let other_laptop = ends.owner.laptop(other(side));
+    let mut line = begin_line(stream, number);
+    add_side(&mut line, side);
+    add_event(&mut line, far_end);
+    add_laptop(&mut line, laptop);
+    add_catalogue(&mut line, &ends.owner, side);
+    line.field(far_end.dock.page);
+    line.field(far_end.lost);
+    line.edition(u8::from(laptop.edition));
+    line.edition(u8::from(far_end.dock.edition));
+    add_laptop(&mut line, other_laptop);
+    line.edition(u8::from(other_laptop.edition));
+    line.print_line();
 }

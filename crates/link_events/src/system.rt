@@ -1,106 +1,58 @@
-// The laptop end, its two links and their docks, driven by events. An event that is not permitted changes nothing.
-use crate::at_laptop::{arrive, make, run_out};
+// The laptop end, its two links and their docks, driven by events.
+use crate::begin::gather_old;
 use crate::event::Event;
-use crate::state::State;
+use crate::joined::Joined;
 use driving::owning::Owner;
-use events::Call;
-use linking::at_dock::take_at_dock;
-use linking::far_end::{FarEnd, permitted};
-use linking::link::permits;
-use port::{Side, Wait};
+use linking::far_end::FarEnd;
+use linking::start::Start;
+use port::{Port, Side};
 
-// Each side has a far end. The last field is the side of the last event.
+// Each side has a far end.
 #[derive(Clone, Copy)]
 pub struct Ends {
     pub owner: Owner,
-    pub partner: FarEnd,
-    pub cable: FarEnd,
-    pub side: Side,
+    partner: FarEnd,
+    cable: FarEnd,
 }
 
-// The event was permitted by the side's link.
-fn take_permitted(owner: Owner, far_end: FarEnd, side: Side, event: linking::Event) -> State {
+// A timer or the protocol error concerns the side that waits, or the partner where none does.
+fn side_of(said: Side, event: Event, port: Port) -> Side {
     match event {
-        linking::Event::AnswerArrives => arrive(owner, far_end, side),
-        _ => State {
+        Event::Timer | Event::ProtocolError => port.wait.map_or(Side::Partner, |(side, _)| side),
+        _ => said,
+    }
+}
+
+impl Ends {
+    pub fn new(partner: Start, cable: Start) -> Ends {
+        let mut owner = Owner::new(0);
+        if partner.holds_old {
+            gather_old(&mut owner, Side::Partner);
+        }
+        if cable.holds_old {
+            gather_old(&mut owner, Side::Cable);
+        }
+        Ends {
             owner,
-            far_end: take_at_dock(far_end, event),
-        },
+            partner: partner.far_end,
+            cable: cable.far_end,
+        }
     }
-}
 
-fn take_linked(owner: Owner, before: FarEnd, side: Side, event: linking::Event) -> State {
-    let far_end = permitted(before, permits(before.link, event));
-    if far_end.is_permitted {
-        return take_permitted(owner, far_end, side, event);
+    pub fn far_end(&self, side: Side) -> &FarEnd {
+        match side {
+            Side::Partner => &self.partner,
+            Side::Cable => &self.cable,
+        }
     }
-    State { owner, far_end }
-}
 
-// An event of a side.
-pub fn take_on(state: State, side: Side, event: Event) -> State {
-    let owner = state.owner;
-    let far_end = permitted(state.far_end, true);
-    match event {
-        Event::Call(call) => make(owner, far_end, side, call),
-        Event::Timer => run_out(owner, far_end, side),
-        Event::ProtocolError => make(owner, far_end, side, Call::ProtocolError),
-        Event::Linked(linked) => take_linked(owner, far_end, side, linked),
+    // An event, with the side that it says; the answer is the side that it concerns.
+    pub fn take(&mut self, said: Side, event: Event) -> Side {
+        let side = side_of(said, event, self.owner.port);
+        match side {
+            Side::Partner => Joined::new(&mut self.owner, &mut self.partner, side).take(event),
+            Side::Cable => Joined::new(&mut self.owner, &mut self.cable, side).take(event),
+        }
+        side
     }
-}
-
-// The partner where none waits.
-fn waiting_side(wait: Wait) -> Side {
-    let Wait::Answer(side, _) = wait else {
-        return Side::Partner;
-    };
-    side
-}
-
-// A timer or the protocol error concerns the side that waits.
-fn side_of(side: Side, event: Event, wait: Wait) -> Side {
-    match event {
-        Event::Timer => waiting_side(wait),
-        Event::ProtocolError => waiting_side(wait),
-        _ => side,
-    }
-}
-
-pub fn end_at(ends: Ends, side: Side) -> FarEnd {
-    match side {
-        Side::Partner => ends.partner,
-        Side::Cable => ends.cable,
-    }
-}
-
-// The ends after an event of the side.
-fn with_side(ends: Ends, side: Side, state: State) -> Ends {
-    let owner = state.owner;
-    let far_end = state.far_end;
-    match side {
-        Side::Partner => Ends {
-            owner,
-            partner: far_end,
-            side,
-            ..ends
-        },
-        Side::Cable => Ends {
-            owner,
-            cable: far_end,
-            side,
-            ..ends
-        },
-    }
-}
-
-pub fn take(ends: Ends, said: Side, event: Event) -> Ends {
-    let owner = ends.owner;
-    let port = owner.port;
-    let wait = port.wait;
-    let side = side_of(said, event, wait);
-    let state = State {
-        owner,
-        far_end: end_at(ends, side),
-    };
-    with_side(ends, side, take_on(state, side, event))
 }

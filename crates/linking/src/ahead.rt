@@ -1,8 +1,7 @@
 // A dock that has answered before the laptop begins.
 use crate::Event;
-use crate::at_dock::take_at_dock;
 use crate::far_end::FarEnd;
-use crate::link::{REQUEST, quiet, with_request};
+use crate::link::{Link, REQUEST};
 use messages::{IDENTITY, OURS, PD_SID, REQ, Request, SVIDS, head_for};
 
 // At our edition.
@@ -12,28 +11,28 @@ fn request_for(command: u8) -> [u8; REQUEST] {
         command,
         position: 0,
     };
-    let mut bytes = [0u8; REQUEST];
-    writing::write(OURS, head_for(request, REQ), &[0u32; 0], &mut bytes);
+    let mut bytes = [0; REQUEST];
+    writing::write(OURS, head_for(request, REQ), &[], &mut bytes);
     bytes
 }
 
-// A request that is given and confirmed, without a laptop.
-fn exchange(far_end: FarEnd, command: u8) -> FarEnd {
-    let asked = FarEnd {
-        link: with_request(quiet(), request_for(command)),
-        ..far_end
-    };
-    let given = take_at_dock(take_at_dock(asked, Event::RequestReaches), Event::Give);
-    take_at_dock(given, Event::Sent)
-}
-
-// The dock answers Identity and so many times SVIDs, all of it "sent".
-pub(crate) fn advanced(begun: FarEnd, pages: u8) -> FarEnd {
-    let mut far_end = exchange(begun, IDENTITY);
-    let mut page = 0;
-    while page < pages {
-        far_end = exchange(far_end, SVIDS);
-        page += 1;
+impl FarEnd {
+    // A request that is given and confirmed, without a laptop.
+    fn exchange(&mut self, command: u8) {
+        self.link = Link {
+            request: Some(request_for(command)),
+            ..Link::quiet()
+        };
+        self.take(Event::RequestReaches);
+        self.take(Event::Give);
+        self.take(Event::Sent);
     }
-    far_end
+
+    // The dock answers Identity and so many times SVIDs, all of it "sent".
+    pub(crate) fn advance(&mut self, pages: u8) {
+        self.exchange(IDENTITY);
+        for _ in 0..pages {
+            self.exchange(SVIDS);
+        }
+    }
 }

@@ -1,61 +1,54 @@
 // What stays at the far end from event to event, and what the last event there led to.
-use crate::link::{Link, quiet};
-use dock::Dock;
-use laptop::RUN_WORDS;
-use messages::Edition;
+use crate::link::Link;
+use crate::objects::Objects;
+use dock::{Accepted, Dock};
+use messages::{Edition, Refusal};
+use pages::MOST_SVIDS;
 
-// The modes of the dock's SVIDs: how many each has, and six words for each.
-#[derive(Clone, Copy)]
-pub struct Modes {
-    pub counts: [u8; 72],
-    pub words: [u32; RUN_WORDS],
-}
+// The modes of each of the dock's SVIDs.
+pub type Modes = [Objects; MOST_SVIDS];
 
-// The refusal number of the call that an event made.
-#[derive(Clone, Copy)]
-pub enum Refusal {
-    Nothing,
-    Number(u8),
-}
-
-// The dock with its highest edition, and the link to it. `lost` counts the confirmations lost in this gathering. The last two fields are of the last event.
+// The dock with its highest edition, and the link to it. `lost` counts the confirmations lost in this gathering. The last two fields are of the last event:
+// the outcome is that of the call that it made.
 #[derive(Clone, Copy)]
 pub struct FarEnd {
     pub dock: Dock,
-    pub highest: Edition,
-    pub modes: Modes,
+    pub(crate) highest: Edition,
+    pub(crate) modes: Modes,
     pub link: Link,
     pub lost: u64,
     pub is_permitted: bool,
-    pub refusal: Refusal,
+    pub outcome: Option<Result<(), Refusal>>,
 }
 
-// With a quiet link.
-pub fn end_of(dock: Dock, highest: Edition, modes: Modes) -> FarEnd {
-    FarEnd {
-        dock,
-        highest,
-        modes,
-        link: quiet(),
-        lost: 0,
-        is_permitted: true,
-        refusal: Refusal::Nothing,
+impl FarEnd {
+    // With a quiet link.
+    pub fn new(dock: Dock, highest: Edition, modes: Modes) -> FarEnd {
+        FarEnd {
+            dock,
+            highest,
+            modes,
+            link: Link::quiet(),
+            lost: 0,
+            is_permitted: true,
+            outcome: None,
+        }
     }
-}
 
-// An event that is permitted, or not, and makes no call so far.
-pub fn permitted(far_end: FarEnd, is_permitted: bool) -> FarEnd {
-    FarEnd {
-        is_permitted,
-        refusal: Refusal::Nothing,
-        ..far_end
+    // An event that is permitted, or not, and makes no call so far.
+    pub fn permit(&mut self, is_permitted: bool) {
+        self.is_permitted = is_permitted;
+        self.outcome = None;
     }
-}
 
-// The confirmations lost, with one more or not.
-pub fn counted(lost: u64, is_lost: bool) -> u64 {
-    if is_lost {
-        return std::num::wrapping_add_u64(lost, 1);
+    // One more confirmation is lost, or none.
+    pub fn count_lost(&mut self, is_lost: bool) {
+        self.lost = self.lost.wrapping_add(u64::from(is_lost));
     }
-    lost
+
+    // What a call of the dock gave, which stays as it was where it refuses.
+    pub(crate) fn step(&mut self, stepped: Result<Accepted, Refusal>) {
+        self.dock = stepped.map_or(self.dock, |accepted| accepted.dock);
+        self.outcome = Some(stepped.map(|_| ()));
+    }
 }

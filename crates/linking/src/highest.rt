@@ -1,14 +1,18 @@
 // A dock of an older edition. It is our dock, but it answers at the lower of the request's edition and its highest.
 use crate::link::REQUEST;
-use messages::{Edition, ReadAs, lower};
+use messages::{Edition, lower};
 
 // The request as our dock has to hear it, so that it answers as the other does.
 pub(crate) fn lowered(request: [u8; REQUEST], highest: Edition) -> [u8; REQUEST] {
-    let outcome = reading::read(&request).outcome;
-    let ReadAs::Message(edition, head, _) = outcome else {
+    let Ok(received) = reading::read(&request) else {
         return request;
     };
     let mut bytes = request;
-    writing::write(lower(edition, highest), head, &[0u32; 0], &mut bytes);
+    writing::write(
+        lower(received.edition, highest),
+        received.head,
+        &[],
+        &mut bytes,
+    );
     bytes
 }

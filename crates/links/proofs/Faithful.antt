@@ -9,11 +9,10 @@ use Rattle.laptop.specs.State.{Memory}
 use Rattle.laptop.specs.declared.Laptop.{Laptop}
 use Rattle.hearing.specs.Hearing.{heard}
 use Rattle.port.specs.Calls.{is_waiting, waiting_side}
-use Rattle.port.specs.Sides.{is_others, seen, put_back}
+use Rattle.port.specs.Sides.{Wait, is_others, seen, put_back}
 use Rattle.port.specs.declared.Side.{Side}
 use Rattle.port.specs.declared.Side.TheVariants.{Partner}
-use Rattle.port.specs.declared.Wait.{Wait}
-use Rattle.port.specs.declared.Wait.TheVariants.{Nothing, Answer}
+use Rattle.std.specs.Prelude.{Some, None}
 use Rattle.port_laws.specs.Effects.{Call, message, next, start_over, drop, enter, exit, timer, protocol_error, concerns, Kept, memory_of, kept_on, effect_of, effect_in, kept_by_of}
 use Rattle.port_laws.specs.Leaving.{is_others_call, is_blocked}
 use Rattle.port_laws.proofs.OneCall.{idle_kept, blocked_changes_nothing}
@@ -27,8 +26,8 @@ use Rattle.links.proofs.Lifting.{self, port_joined}
 use Rattle.links.proofs.Shares.{memory_in}
 
 waits_own : (w : Wait) → is_others (waiting_side w) w ≡ false
-waits_own Nothing = refl
-waits_own (Answer s r) = self s
+waits_own None = refl
+waits_own (Some (s, r)) = self s
 
 -- a call is no other side's to the side that it concerns
 own_call : (c : Call) (w : Wait) → is_others_call (concerns c w) c w ≡ false
@@ -43,12 +42,12 @@ own_call protocol_error w = waits_own w
 
 -- a timer or the protocol error with nothing awaited
 module _ (out : List ℕ) (k : Kept) where
-  nothing_waits : (w : Wait) → not (is_waiting w) ≡ true → w ≡ Nothing
-  nothing_waits Nothing e = refl
-  nothing_waits (Answer s r) e = absurd (false≢true e)
+  nothing_waits : (w : Wait) → not (is_waiting w) ≡ true → w ≡ None
+  nothing_waits None e = refl
+  nothing_waits (Some (s, r)) e = absurd (false≢true e)
 
-  idle_same : (c : Call) → (k.port.wait ≡ Nothing → effect_of c k.port k.partner out ≡ refused_nine k.port k.partner out) →
-      (k.port.wait ≡ Nothing → concerns c k.port.wait ≡ Partner) → k.port.wait ≡ Nothing → kept_by_of c out k ≡ k
+  idle_same : (c : Call) → (k.port.wait ≡ None → effect_of c k.port k.partner out ≡ refused_nine k.port k.partner out) →
+      (k.port.wait ≡ None → concerns c k.port.wait ≡ Partner) → k.port.wait ≡ None → kept_by_of c out k ≡ k
   idle_same c nine at idle =
       ap (λ (s : Side). kept_on s (effect_of c k.port (memory_of s k) out) k) (at idle) ∙ idle_kept Partner out k idle _ (nine idle)
 

@@ -9,11 +9,10 @@ use Rattle.laptop.specs.declared.Laptop.{Laptop}
 use Rattle.std.specs.Prelude.{None}
 use Rattle.laptop_laws.specs.Effects.{Effect as LaptopEffect}
 use Rattle.port.specs.Calls.{is_waiting, waiting_side}
-use Rattle.port.specs.Sides.{same_side, is_others, seen, put_back}
+use Rattle.port.specs.Sides.{Wait, same_side, is_others, seen, put_back}
 use Rattle.port.specs.declared.Port.{Port}
 use Rattle.port.specs.declared.Side.{Side}
 use Rattle.port.specs.declared.Side.TheVariants.{Partner, Cable}
-use Rattle.port.specs.declared.Wait.{Wait}
 use Rattle.port_laws.specs.Effects.{Call, message, next, start_over, drop, enter, exit, timer, protocol_error, one_sided, concerns, memory_of, effect_in}
 use Rattle.port_laws.specs.Leaving.{is_others_call, is_blocked, is_left_out}
 use Rattle.port_laws.proofs.OneCall.{put_on, kept_in, own_side, concerns_other, own_seen, not_same, parts}

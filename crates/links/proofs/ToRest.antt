@@ -15,12 +15,10 @@ use Rattle.laptop_laws.specs.Effects.{decided}
 use Rattle.laptop_laws.specs.Effects.{protocol_error as laptop_protocol_error}
 use Rattle.laptop_laws.specs.Effects.{drop as laptop_drop}
 use Rattle.port.specs.Calls.{is_waiting, waiting_side}
-use Rattle.port.specs.Sides.{is_others, wait_put, seen}
+use Rattle.port.specs.Sides.{Wait, is_others, wait_put, seen}
 use Rattle.port.specs.declared.Port.{Port}
 use Rattle.port.specs.declared.Side.{Side}
 use Rattle.port.specs.declared.Side.TheVariants.{Partner, Cable}
-use Rattle.port.specs.declared.Wait.{Wait}
-use Rattle.port.specs.declared.Wait.TheVariants.{Nothing, Answer}
 use Rattle.port_laws.specs.Effects.{protocol_error, drop, concerns, effect_in}
 use Rattle.port_laws.proofs.Sides.{wait_after, idle_seen, nothing_seen, Waits, own_waits, other_waits, none_waits, waits}
 use Rattle.link.specs.Demand.{Meets, Begins, whole, held_words, Holds}
@@ -60,8 +58,8 @@ error_idle modes_of s idle free =
     with_way way = record { laptop = s.laptop; memory = s.memory; way = way; fate = s.fate; dock = s.dock; highest = s.highest; lost = s.lost }
 
 -- a protocol error leaves neither side waiting
-error_frees : (modes_of : Side → ℕ → List ℕ) (j : Joint) (named : Side) (r : Request) → j.port.wait ≡ Answer named r →
-    (step modes_of (calls protocol_error []) j).port.wait ≡ Nothing
+error_frees : (modes_of : Side → ℕ → List ℕ) (j : Joint) (named : Side) (r : Request) → j.port.wait ≡ Some (named, r) →
+    (step modes_of (calls protocol_error []) j).port.wait ≡ None
 unfolding step called
 error_frees modes_of j named r e =
     ap (λ (t : Bool). (cond t j (called_on (concerns protocol_error w) (effect_in protocol_error [] (kept_in_of j)) j)).port.wait) (ap (λ (x : Wait). not (is_waiting x) || false) e) ∙
@@ -75,7 +73,7 @@ error_frees modes_of j named r e =
     after : Laptop
     after = (step_of (seen (waiting_side w) j.port) (decide_error (seen (waiting_side w) j.port) (seen (waiting_side w) j.port).wait) 0).laptop
 
-    own : (s : Side) → wait_put s None (Answer s r) ≡ Nothing
+    own : (s : Side) → wait_put s None (Some (s, r)) ≡ None
     own Partner = refl
     own Cable = refl
 
@@ -89,7 +87,7 @@ module _ (modes_of : Side → ℕ → List ℕ) (side : Side) (n : ℕ) (out : L
   gather_share j free = lifted modes_of side arrive_and_gather j (refl, (refl, exchanges_none n out)) free
 
   -- the other waits, or nobody: the side's share begins with the arrival
-  others_end : (j : Joint) (named : Side) (r : Request) → j.port.wait ≡ Answer named r → is_others side j.port.wait ≡ true →
+  others_end : (j : Joint) (named : Side) (r : Request) → j.port.wait ≡ Some (named, r) → is_others side j.port.wait ≡ true →
       share modes_of side (calls protocol_error [] ∷ arrive side ∷ calls (drop side) [] ∷ exchanges_on side n out) j ≡ arrive_and_gather
   unfolding share
   others_end j named r e others =
@@ -103,7 +101,7 @@ module _ (modes_of : Side → ℕ → List ℕ) (side : Side) (n : ℕ) (out : L
       rest = arrive side ∷ calls (drop side) [] ∷ exchanges_on side n out
 
   -- the side waits: it begins with the protocol error
-  own_ends : (j : Joint) (named : Side) (r : Request) → j.port.wait ≡ Answer named r → is_others side j.port.wait ≡ false →
+  own_ends : (j : Joint) (named : Side) (r : Request) → j.port.wait ≡ Some (named, r) → is_others side j.port.wait ≡ false →
       share modes_of side (calls protocol_error [] ∷ arrive side ∷ calls (drop side) [] ∷ exchanges_on side n out) j ≡ link_calls laptop_protocol_error [] ∷ arrive_and_gather
   unfolding share
   own_ends j named r e free =
@@ -157,10 +155,10 @@ module _ (modes_of : Side → ℕ → List ℕ) (side : Side) (start : Joint) (m
   no_dead_end_on = go j.port.wait refl
     where
       go : (w : Wait) → j.port.wait ≡ w → HoldsWhole (system_seen side (run modes_of (to_rest_on side w ++ exchanges_on side n out) j))
-      go Nothing e = led _ _ (gather_share modes_of side n out j (ap (is_others side) e)) (without_error (nothing_seen side j.port e))
-      go (Answer named r) e = by_waits (waits side j.port.wait)
+      go None e = led _ _ (gather_share modes_of side n out j (ap (is_others side) e)) (without_error (nothing_seen side j.port e))
+      go (Some (named, r)) e = by_waits (waits side j.port.wait)
         where
-          by_waits : Waits side j.port.wait → HoldsWhole (system_seen side (run modes_of (to_rest_on side (Answer named r) ++ exchanges_on side n out) j))
+          by_waits : Waits side j.port.wait → HoldsWhole (system_seen side (run modes_of (to_rest_on side (Some (named, r)) ++ exchanges_on side n out) j))
           by_waits (own_waits f g) = led _ _ (own_ends modes_of side n out j named r e g) from_here
           by_waits (other_waits f g) = led _ _ (others_end modes_of side n out j named r e g) (without_error (idle_seen side j.port g))
           by_waits (none_waits f) = absurd (false≢true (ap is_waiting (sym f ∙ e)))

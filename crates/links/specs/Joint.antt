@@ -5,11 +5,10 @@ use Rattle.dock.specs.declared.Dock.{Dock}
 use Rattle.dock.specs.declared.Policy.{Policy}
 use Rattle.laptop.specs.State.{Memory}
 use Rattle.port.specs.Calls.{is_waiting}
-use Rattle.port.specs.Sides.{seen, put_back}
+use Rattle.port.specs.Sides.{Wait, seen, put_back}
 use Rattle.port.specs.declared.Port.{Port}
 use Rattle.port.specs.declared.Side.{Side}
 use Rattle.port.specs.declared.Side.TheVariants.{Partner, Cable}
-use Rattle.port.specs.declared.Wait.{Wait}
 use Rattle.port_laws.specs.Effects.{Call, message, next, start_over, drop, enter, exit, timer, protocol_error, concerns, Effect, effect_seen, Kept, effect_in}
 use Rattle.port_laws.specs.Leaving.{is_blocked}
 use Rattle.link.specs.Joined.{Way, Fate, System}

@@ -1,5 +1,5 @@
 -- A side's share of what happens: a run of 01's one link (02, R-4).
-use Rattle.std.specs.Prelude.{ℕ, Bool, cond, not, ◌||◌, List, [], ◌∷◌}
+use Rattle.std.specs.Prelude.{ℕ, Bool, cond, not, ◌||◌, List, [], ◌∷◌, Some, None}
 use Rattle.laptop_laws.specs.Effects.{Call as LaptopCall}
 use Rattle.laptop_laws.specs.Effects.{message as laptop_message}
 use Rattle.laptop_laws.specs.Effects.{next as laptop_next}
@@ -9,10 +9,8 @@ use Rattle.laptop_laws.specs.Effects.{enter as laptop_enter}
 use Rattle.laptop_laws.specs.Effects.{exit as laptop_exit}
 use Rattle.laptop_laws.specs.Effects.{timer as laptop_timer}
 use Rattle.laptop_laws.specs.Effects.{protocol_error as laptop_protocol_error}
-use Rattle.port.specs.Sides.{same_side}
+use Rattle.port.specs.Sides.{Wait, same_side}
 use Rattle.port.specs.declared.Side.{Side}
-use Rattle.port.specs.declared.Wait.{Wait}
-use Rattle.port.specs.declared.Wait.TheVariants.{Nothing, Answer}
 use Rattle.port_laws.specs.Effects.{Call, message, next, start_over, drop, enter, exit, timer, protocol_error, one_sided}
 use Rattle.port_laws.specs.Leaving.{is_left_out}
 use Rattle.link.specs.Exchanges.{exchange, times}
@@ -85,5 +83,5 @@ abbrev pub exchanges_on : Side → ℕ → List ℕ → List Event
 exchanges_on side n out = events_on side (times n (exchange out))
 
 abbrev pub to_rest_on : Side → Wait → List Event
-to_rest_on side Nothing = arrive side ∷ calls (drop side) [] ∷ []
-to_rest_on side (Answer named r) = calls protocol_error [] ∷ arrive side ∷ calls (drop side) [] ∷ []
+to_rest_on side None = arrive side ∷ calls (drop side) [] ∷ []
+to_rest_on side (Some (named, r)) = calls protocol_error [] ∷ arrive side ∷ calls (drop side) [] ∷ []

@@ -7,11 +7,10 @@ mod report;
 mod saving;
 
 use files::argument::{ROOM, argument, argument_count};
-use files::input::{FRONT, Input, read_named};
+use files::input::{FRONT, read_named};
 use mending_file::mend_into;
 use names::is_file_name;
 use report::{print_no_name, print_usage};
-use streams::input::first_bytes;
 
 // The number of arguments, the program's own name among them, and which is which.
 const WORDS: usize = 3;
@@ -21,19 +20,15 @@ const IN: usize = 1;
 const OUT: usize = 2;
 
 fn mend_file(rt: &HostRuntime, out: &[u8]) {
-    let mut bytes = [0u8; FRONT];
-    let front: &mut [u8] = &mut bytes;
-    let Input::Read(end) = read_named(rt, IN, front) else {
-        return;
-    };
-    mend_into(rt, first_bytes(front, end), out);
+    let mut front = [0u8; FRONT];
+    if let Some(bytes) = read_named(rt, IN, &mut front) {
+        mend_into(rt, bytes, out);
+    }
 }
 
 fn mend_named(rt: &HostRuntime) {
-    let mut buffer = [0u8; ROOM];
-    let room: &mut [u8] = &mut buffer;
-    let length = argument(rt, OUT, room);
-    let out = first_bytes(room, length);
+    let mut room = [0u8; ROOM];
+    let out = argument(rt, OUT, &mut room);
     if is_file_name(out) {
         mend_file(rt, out);
     } else {

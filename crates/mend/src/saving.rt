@@ -1,20 +1,22 @@
 // A file that has its name only once it is whole, and never takes the place of another.
-use crate::names::NAME_ROOM;
-use files::naming::say_reason;
+use files::naming::{NAME_ROOM, say_reason};
 use files::path::path_of;
 use std::fs;
 use std::fs::{File, OpenOptions};
 use std::io::{Error, Write};
-use streams::input::first_bytes;
-use text::line::append;
+use text::line::Line;
 
-// Whether a call succeeded; where it did not, standard error has the reason.
-fn succeeded(answer: Result<(), Error>, name: &[u8]) -> bool {
+// Standard error has the file in the way and the reason.
+#[derive(Clone, Copy)]
+pub struct Unsaved;
+
+// What a call gives; where it fails, standard error has the reason.
+fn given<T: Drop>(answer: Result<T, Error>, name: &[u8]) -> Result<T, Unsaved> {
     match answer {
-        Ok(()) => true,
+        Ok(value) => Ok(value),
         Err(error) => {
             say_reason(name, error);
-            false
+            Err(Unsaved)
         }
     }
 }
@@ -47,50 +49,45 @@ fn write_through(file: &mut File, bytes: &[u8]) -> Result<(), Error> {
 }
 
 // Writes the new file and closes it, or removes it.
-fn write_or_remove(rt: &HostRuntime, mut file: File, name: &[u8], bytes: &[u8]) -> bool {
-    let written = succeeded(write_through(&mut file, bytes), name);
+fn write_or_remove(
+    rt: &HostRuntime,
+    mut file: File,
+    name: &[u8],
+    bytes: &[u8],
+) -> Result<(), Unsaved> {
+    let written = given(write_through(&mut file, bytes), name);
     drop(file);
-    if !written {
+    if written.is_err() {
         remove(rt, name);
     }
     written
 }
 
 // Makes a file of these bytes where nothing has its name. Where it fails no file is left, unless it was there before.
-fn make(rt: &HostRuntime, name: &[u8], bytes: &[u8]) -> bool {
-    match create(rt, name) {
-        Ok(file) => write_or_remove(rt, file, name, bytes),
-        Err(error) => {
-            say_reason(name, error);
-            false
-        }
-    }
+fn make(rt: &HostRuntime, name: &[u8], bytes: &[u8]) -> Result<(), Unsaved> {
+    let file = given(create(rt, name), name)?;
+    write_or_remove(rt, file, name, bytes)
 }
 
 // Gives the file its name. An empty file takes the name first, which fails where anything has it, so that only this one is replaced.
-fn give_name(rt: &HostRuntime, unfinished: &[u8], name: &[u8]) -> bool {
-    if !make(rt, name, b"") {
-        return false;
+fn give_name(rt: &HostRuntime, unfinished: &[u8], name: &[u8]) -> Result<(), Unsaved> {
+    make(rt, name, b"")?;
+    let renamed = given(rename(rt, unfinished, name), name);
+    if renamed.is_err() {
+        remove(rt, name);
     }
-    if succeeded(rename(rt, unfinished, name), name) {
-        return true;
-    }
-    remove(rt, name);
-    false
+    renamed
 }
 
-// Makes a file of these bytes under a name that nothing has. Where it fails standard error has the file in the way and the reason.
-pub fn save(rt: &HostRuntime, name: &[u8], bytes: &[u8]) -> bool {
-    let mut buffer = [0u8; NAME_ROOM];
-    let at = append(&mut buffer, 0, name);
-    let end = append(&mut buffer, at, b".unfinished");
-    let unfinished = first_bytes(&buffer, end);
-    if !make(rt, unfinished, bytes) {
-        return false;
+// Makes a file of these bytes under a name that nothing has.
+pub fn save(rt: &HostRuntime, name: &[u8], bytes: &[u8]) -> Result<(), Unsaved> {
+    let mut unfinished: Line<NAME_ROOM> = Line::new();
+    unfinished.text(name);
+    unfinished.text(b".unfinished");
+    make(rt, unfinished.said(), bytes)?;
+    let named = give_name(rt, unfinished.said(), name);
+    if named.is_err() {
+        remove(rt, unfinished.said());
     }
-    if give_name(rt, unfinished, name) {
-        return true;
-    }
-    remove(rt, unfinished);
-    false
+    named
 }

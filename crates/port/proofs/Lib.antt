@@ -1,3 +1,3 @@
 -- Laws on the two sides, a file for each topic.
 pub mod Calling
-pub mod Waits
+pub mod Seeing

@@ -8,9 +8,11 @@ use Rattle.port.specs.declared.Own.{Own}
 use Rattle.port.specs.declared.Port.{Port}
 use Rattle.port.specs.declared.Side.{Side}
 use Rattle.port.specs.declared.Side.TheVariants.{Partner, Cable}
-use Rattle.port.specs.declared.Step.{Step}
-use Rattle.port.specs.declared.Wait.{Wait}
-use Rattle.port.specs.declared.Wait.TheVariants.{Nothing, Answer}
+use Rattle.port.specs.Step.{Step}
+
+-- the request whose answer is awaited, with its side
+abbrev pub Wait : Type 0
+Wait = Option (Side × Request)
 
 abbrev pub same_side : Side → Side → Bool
 same_side Partner Partner = true
@@ -20,17 +22,17 @@ same_side Cable Cable = true
 
 -- the other side's answer is awaited
 abbrev pub is_others : Side → Wait → Bool
-is_others side Nothing = false
-is_others side (Answer named r) = not (same_side named side)
+is_others side None = false
+is_others side (Some (named, r)) = not (same_side named side)
 
 -- to a side, what the other awaits is nothing
 abbrev pub wait_seen : Side → Wait → Option Request
-wait_seen side Nothing = None
-wait_seen side (Answer named r) = cond (same_side named side) (Some r) None
+wait_seen side None = None
+wait_seen side (Some (named, r)) = cond (same_side named side) (Some r) None
 
 abbrev pub wait_named : Side → Option Request → Wait
-wait_named side None = Nothing
-wait_named side (Some r) = Answer side r
+wait_named side None = None
+wait_named side (Some r) = Some (side, r)
 
 -- what is awaited once a side awaits this; what the other awaits stays
 abbrev pub wait_put : Side → Option Request → Wait → Wait
@@ -75,4 +77,4 @@ stepped_on side p s =
 
 -- nothing is awaited; on neither side is anything gathered or held
 abbrev pub fresh_port : Port
-fresh_port = record { wait = Nothing; partner = own_in fresh_laptop; cable = own_in fresh_laptop }
+fresh_port = record { wait = None; partner = own_in fresh_laptop; cable = own_in fresh_laptop }

@@ -1,10 +1,11 @@
 // A message that arrives from a side.
 ghost use Rattle.port.specs.Calls.{HearsOn};
+ghost use Rattle.port.specs.Step.{stepped};
 ghost use Rattle.laptop.specs.State.{memory_lent};
 ghost use Rattle.laws.specs.Lent.{lent};
 
 use crate::sides::{seen, stepped_on};
-use crate::{Port, Side, Step};
+use crate::{Accepted, Port, Refused, Side};
 
 // Whatever the other side awaits, it is a message of document 01 on its own side.
 pub fn message(
@@ -20,10 +21,10 @@ pub fn message(
     held_identity: &mut [u32; 6],
     held_run: &mut [u32],
     entered: &mut [u8; 72],
-) -> Step
-    ensures { HearsOn side port bytes.now (memory_lent svids modes identity run held_svids held_modes held_identity held_run entered) result }
+) -> Result<Accepted, Refused>
+    ensures { HearsOn side port bytes.now (memory_lent svids modes identity run held_svids held_modes held_identity held_run entered) (stepped result) }
 {
-    let step = hearing::message(
+    let heard = hearing::message(
         seen(side, port),
         bytes,
         svids,
@@ -36,5 +37,5 @@ pub fn message(
         held_run,
         entered,
     );
-    stepped_on(side, port, step)
+    stepped_on(side, port, heard)
 }

@@ -13,52 +13,53 @@ mod waiting;
 
 pub use arrival::message;
 pub use freshness::fresh;
-use laptop::{Candidate, Held, Size, Told};
-use messages::{Edition, Request};
+use laptop::{Candidate, Size, Told};
+use messages::{Edition, Refusal, Request};
 pub use owners::{drop, enter, exit, next, start_over};
 pub use readings::{report, write_catalogue};
 pub use sides::{seen, stepped_on};
 pub use waiting::{entry_timer, exit_timer, protocol_error, response_timer};
 
 // The port partner, or the near cable plug.
-#[derive(Clone, Copy)]
+#[derive(Clone, Copy, PartialEq, Eq)]
 pub enum Side {
     Partner,
     Cable,
 }
 
-// Nothing is awaited, or a side's answer to a request.
-#[derive(Clone, Copy)]
-pub enum Wait {
-    Nothing,
-    Answer(Side, Request),
-}
-
 // What a side has of its own: a `Laptop` but for what is awaited.
-#[derive(Clone, Copy)]
+#[derive(Clone, Copy, PartialEq, Eq)]
 pub struct Own {
     pub candidate: Candidate,
     pub gathered: Size,
     pub stored: u8,
     pub pages: u8,
-    pub held: Held,
+    pub held: Option<Size>,
     pub edition: Edition,
 }
 
+// The request whose answer is awaited, with its side.
 #[derive(Clone, Copy)]
 pub struct Port {
-    pub wait: Wait,
+    pub wait: Option<(Side, Request)>,
     pub partner: Own,
     pub cable: Own,
 }
 
-// What a call gives back: the refusal number, how many bytes of the output buffer are to be sent, what policy is told and of which side, and the new
-// state. A timer's side is the one that waited, or the partner where none did.
+// What a call gives back: how many bytes of the output buffer are to be sent, what policy is told and of which side, and the new state. A timer's side
+// is the one that waited, or the partner where none did.
 #[derive(Clone, Copy)]
-pub struct Step {
-    pub refusal: u8,
+pub struct Accepted {
     pub length: u8,
     pub told: Told,
+    pub side: Side,
+    pub port: Port,
+}
+
+// Or why it refuses, of which side, and the state that it leaves.
+#[derive(Clone, Copy)]
+pub struct Refused {
+    pub refusal: Refusal,
     pub side: Side,
     pub port: Port,
 }

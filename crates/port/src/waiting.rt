@@ -1,46 +1,59 @@
 // Timers and the protocol error: those of document 01 on the side that waits.
 ghost use Rattle.std.specs.Prelude.{◌≡◌};
+ghost use Rattle.laptop.specs.Step.{stepped as Laptop·stepped};
 ghost use Rattle.timers.specs.Timers.{decide_timer, decide_error};
 ghost use Rattle.port.specs.Calls.{waiting_side, concerning};
+ghost use Rattle.port.specs.Sides.{stepped_on as Sides·stepped_on};
+ghost use Rattle.port.specs.Sides.{seen as Sides·seen};
+ghost use Rattle.port.specs.Step.{stepped};
 
 use crate::sides::{seen, stepped_on};
-use crate::{Port, Side, Step, Wait};
+use crate::{Accepted, Port, Refused, Side};
+use laptop::Laptop;
 
 // The partner where none waits: it awaits nothing then, and refuses.
 fn waiting_side(port: Port) -> Side
     ensures { result ≡ waiting_side port.wait }
 {
-    let wait = port.wait;
-    match wait {
-        Wait::Nothing => Side::Partner,
-        Wait::Answer(side, _) => side,
+    match port.wait {
+        Some((side, _)) => side,
+        None => Side::Partner,
     }
 }
 
-pub fn response_timer(port: Port) -> Step
-    ensures { result ≡ concerning (λ l. decide_timer 1 3 l l.wait) port }
+// A call of document 01, made of the laptop that the waiting side sees.
+fn concerning<F: FnOnce(Laptop) -> Result<laptop::Accepted, laptop::Refused>>(
+    port: Port,
+    call: F,
+) -> Result<Accepted, Refused>
+    requires { F.pre call (Sides·seen (waiting_side port.wait) port) }
+    ensures { (given : _) × F.post call (Sides·seen (waiting_side port.wait) port) given
+        × (stepped result ≡ Sides·stepped_on (waiting_side port.wait) port (Laptop·stepped given)) }
 {
     let side = waiting_side(port);
-    stepped_on(side, port, timers::response_timer(seen(side, port)))
+    stepped_on(side, port, call(seen(side, port)))
 }
 
-pub fn entry_timer(port: Port) -> Step
-    ensures { result ≡ concerning (λ l. decide_timer 4 4 l l.wait) port }
+pub fn response_timer(port: Port) -> Result<Accepted, Refused>
+    ensures { stepped result ≡ concerning (λ l. decide_timer 1 3 l l.wait) port }
 {
-    let side = waiting_side(port);
-    stepped_on(side, port, timers::entry_timer(seen(side, port)))
+    concerning(port, timers::response_timer)
 }
 
-pub fn exit_timer(port: Port) -> Step
-    ensures { result ≡ concerning (λ l. decide_timer 5 5 l l.wait) port }
+pub fn entry_timer(port: Port) -> Result<Accepted, Refused>
+    ensures { stepped result ≡ concerning (λ l. decide_timer 4 4 l l.wait) port }
 {
-    let side = waiting_side(port);
-    stepped_on(side, port, timers::exit_timer(seen(side, port)))
+    concerning(port, timers::entry_timer)
 }
 
-pub fn protocol_error(port: Port) -> Step
-    ensures { result ≡ concerning (λ l. decide_error l l.wait) port }
+pub fn exit_timer(port: Port) -> Result<Accepted, Refused>
+    ensures { stepped result ≡ concerning (λ l. decide_timer 5 5 l l.wait) port }
 {
-    let side = waiting_side(port);
-    stepped_on(side, port, timers::protocol_error(seen(side, port)))
+    concerning(port, timers::exit_timer)
+}
+
+pub fn protocol_error(port: Port) -> Result<Accepted, Refused>
+    ensures { stepped result ≡ concerning (λ l. decide_error l l.wait) port }
+{
+    concerning(port, timers::protocol_error)
 }

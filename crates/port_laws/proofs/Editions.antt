@@ -20,7 +20,7 @@ use Rattle.port.specs.Sides.{same_side, seen}
 use Rattle.port.specs.declared.Port.{Port}
 use Rattle.port.specs.declared.Side.{Side}
 use Rattle.port.specs.declared.Side.TheVariants.{Partner, Cable}
-use Rattle.port.specs.declared.Step.{Step}
+use Rattle.port.specs.Step.{Step}
 use Rattle.port_laws.specs.Editions.{said_on, said_over_on}
 use Rattle.port_laws.specs.Effects.{Call, message, next, start_over, drop, enter, exit, timer, protocol_error, one_sided, concerns, effect_of, effect_seen, Kept, memory_of, of_side, effect_in, kept_by_of, kept_after}
 use Rattle.port_laws.specs.Leaving.{is_others_call, is_blocked, is_left_out, leaving, one_sided_all}

@@ -26,11 +26,10 @@ use Rattle.laptop_laws.proofs.First.{Tells, first_only, first_test, Without, non
 use Rattle.laptop_laws.proofs.Given.{given_exactly as laptop_given_exactly}
 use Rattle.laptop_laws.proofs.OwnerGiven.{tells_short, unless_first}
 use Rattle.port.specs.Calls.{is_waiting, owners_refusal, waiting_side}
-use Rattle.port.specs.Sides.{seen}
+use Rattle.port.specs.Sides.{Wait, seen}
 use Rattle.port.specs.declared.Port.{Port}
 use Rattle.port.specs.declared.Side.{Side}
-use Rattle.port.specs.declared.Wait.{Wait}
-use Rattle.port.specs.declared.Wait.TheVariants.{Nothing, Answer}
+use Rattle.std.specs.Prelude.{Some, None}
 use Rattle.port_laws.specs.Effects.{Call, message, next, start_over, drop, enter, exit, timer, protocol_error, one_sided, concerns, is_owners, effect_of}
 use Rattle.port_laws.specs.Given.{Awaits, owners_lines, behind_two, lines, Given}
 use Rattle.port_laws.proofs.Sides.{nothing_seen}
@@ -41,9 +40,9 @@ behind_two_lem a b list number na nb (inl x) = absurd (na x.0)
 behind_two_lem a b list number na nb (inr (x, inl y)) = absurd (nb y.0)
 behind_two_lem a b list number na nb (inr (x, inr y)) = y.1
 
-tells_waits : (w : Wait) → Tells (is_waiting w) (w ≡ Nothing → ⊥)
-tells_waits Nothing = λ h. h refl
-tells_waits (Answer side r) = λ e. false≢true (sym (ap is_waiting e))
+tells_waits : (w : Wait) → Tells (is_waiting w) (w ≡ None → ⊥)
+tells_waits None = λ h. h refl
+tells_waits (Some (side, r)) = λ e. false≢true (sym (ap is_waiting e))
 
 -- what every owner's call is refused by
 module _ (p : Port) (m : Memory) where
@@ -158,7 +157,7 @@ module _ (c : Call) (p : Port) (m : Memory) (out : List ℕ) (owners : is_owners
       awaited (inr (x, inr y)) = absurd (none_first 7 (behind c p m out) (λ z. omega arith) (no_seven (one_sided c) _ m out) y.1)
 
 -- with long runs and nothing awaited, next and start over are refused 13 exactly while a mode of their own side is entered
-module _ (side : Side) (p : Port) (m : Memory) (out : List ℕ) (long : ShortRun m → ⊥) (idle : p.wait ≡ Nothing) where
+module _ (side : Side) (p : Port) (m : Memory) (out : List ℕ) (long : ShortRun m → ⊥) (idle : p.wait ≡ None) where
   thirteen : (c : Call) (list : List Line) → Without 13 list →
       ((effect_of c p m out).step.refusal ≡ 13) ↔ First (owners_lines p m ++ 13 when AnyEntered m ∷ list) 13 →
       ((effect_of c p m out).step.refusal ≡ 13) ↔ AnyEntered m

@@ -8,12 +8,11 @@ use Rattle.laptop.specs.Calls.{short_runs}
 use Rattle.laptop_laws.specs.Effects.{Call as LaptopCall}
 use Rattle.laptop_laws.specs.Effects.{kept_after as laptop_kept_after}
 use Rattle.port.specs.Calls.{waiting_side}
-use Rattle.port.specs.Sides.{is_others, put_back}
+use Rattle.port.specs.Sides.{Wait, is_others, put_back}
 use Rattle.port.specs.declared.Port.{Port}
 use Rattle.port.specs.declared.Side.{Side}
 use Rattle.port.specs.declared.Side.TheVariants.{Partner}
-use Rattle.port.specs.declared.Wait.{Wait}
-use Rattle.port.specs.declared.Wait.TheVariants.{Nothing}
+use Rattle.std.specs.Prelude.{None}
 use Rattle.port_laws.specs.Effects.{Call, message, next, start_over, drop, enter, exit, timer, protocol_error, one_sided, concerns, is_owners, effect_of, Kept, memory_of, of_side, kept_on, effect_in, kept_by_of, kept_after, Answer, answer_of}
 use Rattle.port_laws.specs.Leaving.{is_others_call, is_blocked, is_left_out, leaving, answers_for, without_others, NoneRefusedSeven, one_sided_all, laptop_by, laptop_answers}
 use Rattle.port_laws.proofs.Seeing.{refused_nine, timer_nine, error_nine}
@@ -92,7 +91,7 @@ free_after side c out j e free = go c (waits side j.port.wait) (kept_in side c j
         not_others side put.0 j.port free
 
     idle : (c : Call) → concerns c j.port.wait ≡ Partner → effect_of c j.port j.partner out ≡ refused_nine j.port j.partner out →
-        j.port.wait ≡ Nothing → is_others side (kept_by_of c out j).port.wait ≡ false
+        j.port.wait ≡ None → is_others side (kept_by_of c out j).port.wait ≡ false
     idle c at f none =
         ap (λ (x : Kept). is_others side x.port.wait)
         (ap (λ (s : Side). kept_on s (effect_of c j.port (memory_of s j) out) j) at ∙ idle_kept side out j none _ f) ∙ free

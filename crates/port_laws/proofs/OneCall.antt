@@ -8,7 +8,7 @@ use Rattle.messages.specs.Reading.{read_outcome}
 use Rattle.laptop.specs.Calls.{Decision, refused_by, step_of, buffer_of, unless, short_runs}
 use Rattle.laptop.specs.State.{Memory}
 use Rattle.laptop.specs.declared.Laptop.{Laptop}
-use Rattle.std.specs.Prelude.{Option, None}
+use Rattle.std.specs.Prelude.{Option, None, Some}
 use Rattle.messages.specs.declared.request.Request.{Request}
 use Rattle.owner.specs.Owner.{owner_refusal, asking_refusal, decide_next, decide_start_over, decide_drop, decide_enter, decide_exit}
 use Rattle.timers.specs.Timers.{decide_timer, decide_error}
@@ -18,13 +18,10 @@ use Rattle.laptop_laws.specs.Effects.{decided}
 use Rattle.laptop_laws.specs.Effects.{effect_of as laptop_effect_of}
 use Rattle.laptop_laws.specs.Effects.{Effect as LaptopEffect}
 use Rattle.port.specs.Calls.{is_waiting, owners_refusal, waiting_side}
-use Rattle.port.specs.Sides.{same_side, is_others, seen, put_back, stepped_on}
+use Rattle.port.specs.Sides.{Wait, same_side, is_others, seen, put_back, stepped_on}
 use Rattle.port.specs.declared.Port.{Port}
 use Rattle.port.specs.declared.Side.{Side}
 use Rattle.port.specs.declared.Side.TheVariants.{Partner, Cable}
-use Rattle.port.specs.declared.Wait.{Wait}
-use Rattle.port.specs.declared.Wait.TheVariants.{Nothing}
-use Rattle.port.specs.declared.Wait.TheVariants.{Answer as WaitAnswer}
 use Rattle.port_laws.specs.Effects.{Call, message, next, start_over, drop, enter, exit, timer, protocol_error, one_sided, concerns, is_owners, Effect, decided_on, effect_of, on_side, effect_seen, Kept, memory_of, of_side, kept_on, effect_in, kept_by_of, answer_of, answer_on_side}
 use Rattle.port_laws.specs.Leaving.{is_others_call, is_blocked, is_left_out, laptop_by}
 use Rattle.port_laws.proofs.Seeing.{message_idle, effect_seen_lem, refused_nine, timer_nine, error_nine}
@@ -174,7 +171,7 @@ owners_idle side c out k o free others =
     short false b false e f g = absurd (false≢true e)
 
 -- a timer or the protocol error while nothing is awaited
-module _ (side : Side) (out : List ℕ) (k : Kept) (none : k.port.wait ≡ Nothing) where
+module _ (side : Side) (out : List ℕ) (k : Kept) (none : k.port.wait ≡ None) where
   pub idle_kept : (e : Effect) → e ≡ refused_nine k.port k.partner out → kept_on Partner e k ≡ k
   idle_kept e f = ap (λ (x : Effect). kept_on Partner x k) f ∙ kept_same Partner k (refused_nine k.port k.partner out) (put_seen Partner k.port) refl
 
@@ -266,8 +263,8 @@ module _ (side : Side) (out : List ℕ) (k : Kept) (others : is_others side k.po
   waiting = go side k.port.wait others
     where
       go : (s : Side) (w : Wait) → is_others s w ≡ true → is_waiting w ≡ true
-      go s Nothing e = e
-      go s (WaitAnswer named r) e = refl
+      go s None e = e
+      go s (Some (named, r)) e = refl
 
   seven : (d : Decision) →
       decided_on side k.port (memory_of side k) out

@@ -36,7 +36,7 @@ use Rattle.port.specs.Calls.{is_waiting, owners_refusal, waiting_side}
 use Rattle.port.specs.Sides.{is_others, seen, put_back, stepped_on}
 use Rattle.port.specs.declared.Port.{Port}
 use Rattle.port.specs.declared.Side.{Side}
-use Rattle.port.specs.declared.Step.{Step}
+use Rattle.port.specs.Step.{Step}
 use Rattle.port_laws.specs.Effects.{Call, message, next, start_over, drop, enter, exit, timer, protocol_error, effect_of}
 use Rattle.port_laws.specs.Refusing.{RefusedAs, is_page, left_by_unawaited}
 use Rattle.port_laws.proofs.Sides.{put_seen, idle_seen}

@@ -6,10 +6,9 @@ use Rattle.laptop.specs.State.{Memory}
 use Rattle.laptop_laws.specs.Effects.{message as laptop_message}
 use Rattle.laptop_laws.specs.Effects.{Effect as LaptopEffect}
 use Rattle.laptop_laws.proofs.Reserved.{effect_same as laptop_effect_same}
-use Rattle.port.specs.Sides.{seen}
+use Rattle.port.specs.Sides.{Wait, seen}
 use Rattle.port.specs.declared.Port.{Port}
 use Rattle.port.specs.declared.Side.{Side}
-use Rattle.port.specs.declared.Wait.{Wait}
 use Rattle.port_laws.specs.Effects.{Call, message, next, start_over, drop, enter, exit, timer, protocol_error, concerns, Effect, effect_of, on_side, Kept, memory_of, kept_on, kept_by_of, kept_after}
 use Rattle.port_laws.specs.Reserved.{reserved_clear, all_reserved_clear}
 

@@ -20,12 +20,10 @@ use Rattle.timers.specs.Timers.{decide_timer, decide_error}
 use Rattle.laptop_laws.specs.Effects.{effect_of as laptop_effect_of}
 use Rattle.laptop_laws.specs.Effects.{decided}
 use Rattle.port.specs.Calls.{is_waiting, owners_refusal, waiting_side}
-use Rattle.port.specs.Sides.{is_others, seen, stepped_on}
+use Rattle.port.specs.Sides.{Wait, is_others, seen, stepped_on}
 use Rattle.port.specs.declared.Port.{Port}
 use Rattle.port.specs.declared.Side.{Side}
 use Rattle.port.specs.declared.Side.TheVariants.{Partner}
-use Rattle.port.specs.declared.Wait.{Wait}
-use Rattle.port.specs.declared.Wait.TheVariants.{Nothing}
 use Rattle.port_laws.specs.Effects.{Call, message, next, start_over, drop, enter, exit, timer, protocol_error, one_sided, concerns, is_owners, Effect, effect_of, decided_on, waiters_effect, on_side}
 use Rattle.port_laws.proofs.Sides.{waits_seen, nothing_seen}
 
@@ -136,7 +134,7 @@ module _ (side : Side) (p : Port) (m : Memory) (out : List ℕ) where
 abbrev pub refused_nine : Port → Memory → List ℕ → Effect
 refused_nine p m out = record { step = stepped_on Partner p (refused_by 9 (seen Partner p)); after = m; buffer = out }
 
-module _ (p : Port) (idle : p.wait ≡ Nothing) (m : Memory) (out : List ℕ) where
+module _ (p : Port) (idle : p.wait ≡ None) (m : Memory) (out : List ℕ) where
   pub timer_nine : (first last : ℕ) → waiters_effect p m out (λ l. decide_timer first last l l.wait) ≡ refused_nine p m out
   unfolding decide_timer step_of buffer_of
   timer_nine first last =

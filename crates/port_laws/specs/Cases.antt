@@ -6,7 +6,6 @@ use Rattle.laptop.specs.declared.Size.{Size}
 use Rattle.port.specs.Sides.{own_of, fresh_port}
 use Rattle.port.specs.declared.Side.{Side}
 use Rattle.port.specs.declared.Side.TheVariants.{Partner, Cable}
-use Rattle.port.specs.declared.Wait.TheVariants.{Nothing}
 use Rattle.port_laws.specs.Effects.{Call, message, next, start_over, drop, enter, exit, timer, protocol_error, concerns, Effect, Kept, effect_in, kept_by_of}
 
 -- a fresh port, each side lent runs of so many words
@@ -33,7 +32,7 @@ held_seen (Some size) = size.count + 1
 
 abbrev pub line_of : Call → Effect → List ℕ
 line_of c e =
-    e.step.refusal ∷ (own_of (concerns c Nothing) e.step.port).pages ∷ held_seen (own_of (concerns c Nothing) e.step.port).held ∷
+    e.step.refusal ∷ (own_of (concerns c None) e.step.port).pages ∷ held_seen (own_of (concerns c None) e.step.port).held ∷
     objects_of (take e.step.length e.buffer)
 
 unfoldable pub lines_from : List Call → Kept → List (List ℕ)

@@ -20,12 +20,11 @@ use Rattle.laptop_laws.specs.Effects.{protocol_error as laptop_protocol_error}
 use Rattle.laptop_laws.specs.Effects.{Effect as LaptopEffect}
 use Rattle.laptop_laws.specs.Effects.{Kept as LaptopKept}
 use Rattle.port.specs.Calls.{owners_decision, waiting_side}
-use Rattle.port.specs.Sides.{seen, stepped_on}
+use Rattle.port.specs.Sides.{Wait, seen, stepped_on}
 use Rattle.port.specs.declared.Port.{Port}
 use Rattle.port.specs.declared.Side.{Side}
 use Rattle.port.specs.declared.Side.TheVariants.{Partner, Cable}
-use Rattle.port.specs.declared.Step.{Step}
-use Rattle.port.specs.declared.Wait.{Wait}
+use Rattle.port.specs.Step.{Step}
 
 -- a message's bytes from a side; the owner's calls for a side, with SVID and position for enter and exit; the timer of commands from first to last; the
 -- protocol error

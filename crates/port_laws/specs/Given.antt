@@ -1,5 +1,5 @@
 -- When each refusal number is given (01, "Refusal numbers", and 02, R-4): for each call its lines, in the documents' order.
-use Rattle.std.specs.Prelude.{◌≡◌, List, [], ◌∷◌, ◌++◌, ℕ}
+use Rattle.std.specs.Prelude.{◌≡◌, List, [], ◌∷◌, ◌++◌, ℕ, None}
 use Rattle.laptop.specs.State.{Memory}
 use Rattle.laptop_laws.specs.Effects.{message as laptop_message}
 use Rattle.laptop_laws.specs.Effects.{next as laptop_next}
@@ -14,12 +14,11 @@ use Rattle.laptop_laws.specs.Given.{lines as laptop_lines}
 use Rattle.port.specs.Calls.{waiting_side}
 use Rattle.port.specs.Sides.{seen}
 use Rattle.port.specs.declared.Port.{Port}
-use Rattle.port.specs.declared.Wait.TheVariants.{Nothing}
 use Rattle.port_laws.specs.Effects.{Call, message, next, start_over, drop, enter, exit, timer, protocol_error}
 
 -- 7: an answer is awaited, from either side
 abbrev pub Awaits : Port → Type 0
-Awaits p = p.wait ≡ Nothing → ⊥
+Awaits p = p.wait ≡ None → ⊥
 
 -- 11 for a short run of the own side, then 7 while either side waits
 abbrev pub owners_lines : Port → Memory → List Line

@@ -4,9 +4,8 @@ use Rattle.laptop.specs.Calls.{short_runs}
 use Rattle.laptop_laws.specs.Effects.{Call as LaptopCall}
 use Rattle.laptop_laws.specs.Effects.{effect_of as laptop_effect_of}
 use Rattle.laptop_laws.specs.Effects.{Kept as LaptopKept}
-use Rattle.port.specs.Sides.{same_side, is_others}
+use Rattle.port.specs.Sides.{Wait, same_side, is_others}
 use Rattle.port.specs.declared.Side.{Side}
-use Rattle.port.specs.declared.Wait.{Wait}
 use Rattle.port_laws.specs.Effects.{Call, message, next, start_over, drop, enter, exit, timer, protocol_error, one_sided, is_owners, Kept, memory_of, effect_in, kept_by_of, Answer, answer_of, answer_on_side}
 
 -- an event of the other side: its messages and calls, and each timer or protocol error that comes while it waits

@@ -10,7 +10,7 @@ use Rattle.laptop_laws.specs.Refusing.{left_by}
 use Rattle.port.specs.Sides.{seen, stepped_on}
 use Rattle.port.specs.declared.Port.{Port}
 use Rattle.port.specs.declared.Side.{Side}
-use Rattle.port.specs.declared.Step.{Step}
+use Rattle.port.specs.Step.{Step}
 use Rattle.port_laws.specs.Effects.{Call, one_sided, concerns}
 
 -- a call's answer: where it is refused, nothing is sent, policy is told nothing, and 01's refusal is left on the side that it concerns; nothing of the

@@ -5,13 +5,12 @@ mod argument;
 mod printing;
 mod showing;
 
-use argument::{Asked, svid_asked};
+use argument::svid_asked;
 use files::argument::{ROOM, argument, argument_count};
-use files::input::{FRONT, Input, read_named};
+use files::input::{FRONT, read_named};
 use files::naming::print_named;
 use printing::print_usage;
 use showing::show;
-use streams::input::first_bytes;
 
 // The number of arguments, the program's own name among them, and which is which.
 const WITHOUT_SVID: usize = 2;
@@ -22,30 +21,26 @@ const NAME: usize = 1;
 
 const SVID: usize = 2;
 
-fn show_file(rt: &HostRuntime, asked: Asked) {
-    let mut bytes = [0u8; FRONT];
-    let front: &mut [u8] = &mut bytes;
-    let Input::Read(end) = read_named(rt, NAME, front) else {
-        return;
-    };
-    show(first_bytes(front, end), asked);
+// All of the catalogue, or the modes of one SVID.
+fn show_file(rt: &HostRuntime, svid: Option<u16>) {
+    let mut front = [0u8; FRONT];
+    if let Some(bytes) = read_named(rt, NAME, &mut front) {
+        show(bytes, svid);
+    }
 }
 
 fn show_svid_of_file(rt: &HostRuntime) {
-    let mut buffer = [0u8; ROOM];
-    let room: &mut [u8] = &mut buffer;
-    let length = argument(rt, SVID, room);
-    let text = first_bytes(room, length);
-    let asked = svid_asked(text);
-    match asked {
-        Asked::Malformed => print_named(b"not an SVID: ", text),
-        _ => show_file(rt, asked),
+    let mut room = [0u8; ROOM];
+    let text = argument(rt, SVID, &mut room);
+    match svid_asked(text) {
+        Some(svid) => show_file(rt, Some(svid)),
+        None => print_named(b"not an SVID: ", text),
     }
 }
 
 fn main(rt: HostRuntime) {
     match argument_count(&rt) {
-        WITHOUT_SVID => show_file(&rt, Asked::All),
+        WITHOUT_SVID => show_file(&rt, None),
         WITH_SVID => show_svid_of_file(&rt),
         _ => print_usage(),
     }

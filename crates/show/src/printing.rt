@@ -1,7 +1,7 @@
-// The lines of a sound file. Each is built in a buffer with room for the longest of its kind.
-use records::{Found, Record, record_from};
+// The lines of a sound file.
+use records::{Record, Whole, record_from};
 use streams::finish::STDOUT;
-use text::line::{append, append_half, append_spaced_word, append_words, end_line};
+use text::line::Line;
 
 // "identity", six words of a space and eight digits each, and the line end.
 const LONGEST: usize = 63;
@@ -14,36 +14,20 @@ pub fn print_usage() {
 }
 
 pub fn print_identity(objects: &[u32]) {
-    let mut line = [0u8; LONGEST];
-    let at = append(&mut line, 0, b"identity");
-    let at = append_words(&mut line, at, objects);
-    end_line(&mut line, at);
-}
-
-fn append_mode(line: &mut [u8], at: usize, found: Found) -> usize {
-    let Found::Whole(record, _) = found else {
-        return at;
-    };
-    let Record::Mode(word) = record else {
-        return at;
-    };
-    append_spaced_word(line, at, word)
+    let mut line: Line<LONGEST> = Line::new();
+    line.text(b"identity");
+    line.words(objects);
+    line.print_line();
 }
 
 // The words of a stretch of mode records.
-fn append_modes(line: &mut [u8], at: usize, stretch: &[u8]) -> usize {
-    let mut end = at;
-    let mut index = 0;
-    while index < stretch.len() / MODE_RECORD {
-        end = append_mode(line, end, record_from(stretch, index * MODE_RECORD));
-        index += 1;
-    }
-    end
-}
-
 pub fn print_svid(svid: u16, stretch: &[u8]) {
-    let mut line = [0u8; LONGEST];
-    let at = append_half(&mut line, 0, svid);
-    let at = append_modes(&mut line, at, stretch);
-    end_line(&mut line, at);
+    let mut line: Line<LONGEST> = Line::new();
+    line.half(svid);
+    for bytes in stretch.chunks_exact(MODE_RECORD) {
+        if let Ok(Whole { record: Record::Mode(word), .. }) = record_from(bytes, 0) {
+            line.spaced_word(word);
+        }
+    }
+    line.print_line();
 }

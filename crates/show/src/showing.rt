@@ -1,9 +1,8 @@
 // What is shown of a file: it is judged whole before the first line is printed.
-use crate::argument::Asked;
 use crate::printing::{print_identity, print_svid};
 use files::verdict::{print_counts, print_fault, print_refused};
 use laptop::RUN_WORDS;
-use messages::first_objects;
+use messages::first;
 use rebuilding::{Rebuilt, read_catalogue};
 use streams::input::bytes_from;
 use stretches::find_stretch;
@@ -23,25 +22,16 @@ fn show_svid(bytes: &[u8], svid: u16) -> bool {
     true
 }
 
-// A sound file has no more SVIDs than the list has places: testing it spares the proof.
-fn show_svids(bytes: &[u8], svids: &[u16; MOST_SVIDS], count: usize) {
-    let mut index = 0;
-    while index < MOST_SVIDS {
-        if index < count {
-            show_svid(bytes, svids[index]);
-        }
-        index += 1;
-    }
-}
-
 fn show_all(
     bytes: &[u8],
     rebuilt: Rebuilt,
     identity: &[u32; MOST_OBJECTS],
     svids: &[u16; MOST_SVIDS],
 ) {
-    print_identity(first_objects(identity, rebuilt.extent));
-    show_svids(bytes, svids, rebuilt.count);
+    print_identity(first(identity, rebuilt.extent));
+    for svid in svids.iter().take(rebuilt.count) {
+        show_svid(bytes, *svid);
+    }
     print_counts(b"sound, ", rebuilt.count, rebuilt.modes);
 }
 
@@ -51,7 +41,8 @@ fn show_one(bytes: &[u8], rebuilt: Rebuilt, svid: u16) {
     }
 }
 
-pub fn show(bytes: &[u8], asked: Asked) {
+// All of the file, or the modes of one SVID.
+pub fn show(bytes: &[u8], svid: Option<u16>) {
     let mut identity = [0u32; MOST_OBJECTS];
     let mut svids = [0u16; MOST_SVIDS];
     let mut modes = [0u8; MOST_SVIDS];
@@ -61,8 +52,8 @@ pub fn show(bytes: &[u8], asked: Asked) {
         print_fault(b"refused ", rebuilt.refusal, rebuilt.at);
         return;
     }
-    match asked {
-        Asked::One(svid) => show_one(bytes, rebuilt, svid),
-        _ => show_all(bytes, rebuilt, &identity, &svids),
+    match svid {
+        Some(svid) => show_one(bytes, rebuilt, svid),
+        None => show_all(bytes, rebuilt, &identity, &svids),
     }
 }

@@ -1,92 +1,69 @@
-// Standard input in blocks: a buffer that the caller lends, so that one call of the C library reads many events.
-ghost use Rattle.std.specs.Prelude.{◌≤◌, length};
+// Standard input in blocks, so that one call of the C library reads many events.
+ghost use Rattle.std.specs.Prelude.{◌≡◌, ℕ, ◌-◌, ◌<◌, ◌≤◌, List, [], ◌++◌, length, take, drop};
 
-use crate::input::{STDIN, first_bytes};
+use crate::input::STDIN;
+use std::marker::Model;
 
-// The part of a block of input that is read and not yet taken, and whether the input ended behind it.
-#[derive(Clone, Copy)]
-pub struct Unread {
-    pub start: usize,
-    pub end: usize,
-    pub ended: bool,
+#[derive(Drop)]
+pub struct Block<const N: usize> {
+    bytes: [u8; N],
+    start: usize,
+    end: usize,
+    // Whether the input ended behind these bytes.
+    ended: bool,
 }
 
-pub fn nothing_read() -> Unread {
-    Unread {
-        start: 0,
-        end: 0,
-        ended: false,
-    }
+// Clauses see the bytes from `start` to `end`, which are read and not yet taken.
+impl<const N: usize> Model for Block<N> {
+    ghost Value = { List ℕ };
+
+    ghost view = { λ block. take (block.end - block.start) (drop block.start block.bytes) };
+
+    ghost invariant = { λ block. (block.start ≤ block.end) × (block.end ≤ N) };
 }
 
-// The part lies within every block: testing it spares the callers the proof.
-pub fn unread_bytes(block: &[u8], unread: Unread) -> &[u8] {
-    let bytes = first_bytes(block, unread.end);
-    let start = unread.start;
-    if start <= bytes.len() {
-        return &bytes[start..];
-    }
-    bytes
-}
-
-// The part without its first bytes.
-pub fn taken(unread: Unread, count: usize) -> Unread {
-    if count <= unread.end {
-        if unread.start <= unread.end - count {
-            return Unread {
-                start: unread.start + count,
-                end: unread.end,
-                ended: unread.ended,
-            };
+impl<const N: usize> Block<N> {
+    // Nothing is read yet.
+    pub fn new() -> Self
+        ensures { result ≡ [] }
+    {
+        Block {
+            bytes: [0; N],
+            start: 0,
+            end: 0,
+            ended: false,
         }
     }
-    unread
-}
 
-// Moves the part to the front of the block, and answers its length.
-fn move_to_front(block: &mut [u8], unread: Unread) -> usize
-    ensures { result ≤ length block.new }
-{
-    let start = unread.start;
-    let end = unread.end;
-    if end < start {
-        return 0;
+    pub fn unread(&self) -> &[u8]
+        ensures { result.now ≡ self.now }
+    {
+        let bytes = &self.bytes[..];
+        &bytes[self.start..self.end]
     }
-    if block.len() < end {
-        return 0;
-    }
-    let count = end - start;
-    let mut index = 0;
-    while index < count {
-        block[index] = block[start + index];
-        index += 1;
-    }
-    count
-}
 
-// Reads into the block behind its first bytes.
-fn read_behind(block: &mut [u8], kept: usize) -> Unread
-    requires { kept ≤ length block.old }
-{
-    let more = io::read_full(STDIN, &mut block[kept..]);
-    let end = kept + more;
-    Unread {
-        start: 0,
-        end,
-        ended: end < block.len(),
-    }
-}
-
-// Reads on where the part may be shorter than what is wanted of it, unless the input has ended.
-pub fn refill(block: &mut [u8], unread: Unread, wanted: usize) -> Unread {
-    if unread.ended {
-        return unread;
-    }
-    if unread.start <= unread.end {
-        if wanted <= unread.end - unread.start {
-            return unread;
+    // Takes the first of the unread bytes, or none where there are fewer.
+    pub fn take(&mut self, count: usize)
+        ensures taken { count ≤ length self.old → self.new ≡ drop count self.old }
+        ensures kept { length self.old < count → self.new ≡ self.old }
+    {
+        if count <= self.end - self.start {
+            self.start += count;
         }
     }
-    let kept = move_to_front(block, unread);
-    read_behind(block, kept)
+
+    // Reads on where fewer bytes are unread than wanted, unless the input has ended.
+    pub fn refill(&mut self, wanted: usize)
+        ensures { (more : List ℕ) × (self.new ≡ self.old ++ more) }
+    {
+        let unread = self.end - self.start;
+        if self.ended || wanted <= unread {
+            return;
+        }
+        let bytes = &mut self.bytes[..];
+        bytes.copy_within(self.start..self.end, 0);
+        self.end = unread + io::read_full(STDIN, &mut bytes[unread..]);
+        self.start = 0;
+        self.ended = self.end < N;
+    }
 }

@@ -1,4 +1,5 @@
 // A stream of vectors or events on standard input: how many are answered, and how it ended.
+ghost use Rattle.std.specs.Prelude.{◌≤◌};
 
 // The number of standard output among the open files.
 pub const STDOUT: i32 = 1;
@@ -6,11 +7,10 @@ pub const STDOUT: i32 = 1;
 // A proved loop has to end, and nothing says that the input does. So after this many answers the input counts as ended, and after this many streams.
 pub const MOST: u64 = 1000000;
 
-// What became of the vector or event that was to come next. Of the programs that read several streams, a new one may stand in its place, or one that
+// Why the vector or event that was to come next is not answered. Of the programs that read several streams, a new one may stand in its place, or one that
 // begins badly.
-#[derive(Clone, Copy)]
-pub enum Turn {
-    Answered,
+#[derive(Clone, Copy, PartialEq, Eq)]
+pub enum Stop {
     NewStream,
     BadStart,
     Ended,
@@ -18,26 +18,53 @@ pub enum Turn {
     Cut,
 }
 
-// The turn that was the last, and how many were answered before it.
+// Why the last was not answered, and how many were answered before it.
 #[derive(Clone, Copy)]
 pub struct Finish {
-    pub turn: Turn,
+    pub stop: Stop,
     pub answered: u64,
 }
 
-fn write_turn(turn: Turn) {
-    match turn {
-        Turn::Unknown => io::write_all(STDOUT, b"unknown kind after "),
-        Turn::Cut => io::write_all(STDOUT, b"cut after "),
-        _ => io::write_all(STDOUT, b"end "),
-    };
+impl Finish {
+    // Prints a program's last line: how the input ended, and how many were answered before that. `name` says of what, and ends the line. It stands once
+    // in an output, so it is not worth a buffer.
+    pub fn print(self, name: &[u8]) {
+        match self.stop {
+            Stop::Unknown => io::write_all(STDOUT, b"unknown kind after "),
+            Stop::Cut => io::write_all(STDOUT, b"cut after "),
+            _ => io::write_all(STDOUT, b"end "),
+        };
+        io::print_decimal(STDOUT, self.answered);
+        io::write_all(STDOUT, name);
+    }
 }
 
-// A program's last line: how the input ended, and how many were answered before that. `name` says of what, and ends the line. It stands once in an
-// output, so it is not worth a buffer.
-pub fn print_finish(finish: Finish, name: &[u8]) {
-    let turn = finish.turn;
-    write_turn(turn);
-    io::print_decimal(STDOUT, finish.answered);
-    io::write_all(STDOUT, name);
+// Answers a stream, after so many answers to the streams before it. `answer` is given the number of each vector or event in its own stream.
+pub fn answer_each<F: FnMut(u64) -> Result<(), Stop>>(before: u64, mut answer: F) -> Finish
+    requires { F.IsAlwaysCallable answer }
+    ensures { result.answered ≤ 1000000 }
+{
+    for answered in before..MOST {
+        if let Err(stop) = answer(answered - before + 1) {
+            return Finish { stop, answered };
+        }
+    }
+    Finish {
+        stop: Stop::Ended,
+        answered: MOST,
+    }
+}
+
+// Answers the streams. `answer` is given the number of each, and how many were answered of those before it.
+pub fn answer_streams<F: FnMut(u64, u64) -> Finish>(mut answer: F) -> Finish
+    requires { F.IsAlwaysCallable answer }
+{
+    let mut finish = answer(1, 0);
+    for stream in 2..=MOST {
+        if finish.stop != Stop::NewStream {
+            break;
+        }
+        finish = answer(stream, finish.answered);
+    }
+    finish
 }

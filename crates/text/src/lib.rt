@@ -1,4 +1,4 @@
-#![tactic(auto)]
+#![tactic(auto, using(crate::proofs::Text::with_both))]
 
 // What the programs share of writing: a line of output, built in a buffer that is lent.
 pub mod line;

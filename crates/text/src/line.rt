@@ -1,155 +1,199 @@
-// One line of output, built in a buffer that the caller lends, so that one call writes it. Each
-// function that adds to the line puts its text at `at` and answers where that text ends.
+// One line of output, built in fixed memory, so that one call writes it. A method adds its text behind what stands there; what finds no room is left
+// out.
+ghost use Rattle.std.specs.Prelude.{◌≡◌, ℕ, ◌+◌, ◌<◌, ◌≤◌, List, [], ◌∷◌, ◌++◌, length, take, true};
+ghost use Rattle.std.specs.Fmt.{decimal, digit_glyph};
+ghost use Rattle.std.specs.Int.{to_be_bytes, w16};
+ghost use Rattle.text.specs.Text.{with_text, spaced, edition_text, hex_bytes, hex_word, hex_words};
+
+use std::fmt;
+use std::marker::Model;
 
 // The number of standard output among the open files.
 const STDOUT: i32 = 1;
 
-// A part is written `0..end` in this crate, and not `..end`, since Rattle then proves its length with no proof file. `end` lies within every line:
-// testing it spares the callers the proof.
-pub fn print_line(line: &[u8], end: usize) {
-    if end <= line.len() {
-        io::write_all(STDOUT, &line[0..end]);
-    }
-}
-
-// Writes the text of a block of output in which fewer bytes than wanted are left, and answers where the next text starts.
-pub fn make_room(block: &[u8], at: usize, wanted: usize) -> usize {
-    if at <= block.len() {
-        if wanted <= block.len() - at {
-            return at;
-        }
-    }
-    print_line(block, at);
-    0
-}
-
-// Ends the line and writes it.
-pub fn end_line(line: &mut [u8], at: usize) {
-    let end = put(line, at, b'\n');
-    print_line(line, end);
-}
-
-// The callers lend lines with room for all of their text, and testing it spares them the proof.
-pub fn put(line: &mut [u8], at: usize, byte: u8) -> usize {
-    if at < line.len() {
-        line[at] = byte;
-        return at + 1;
-    }
-    at
-}
-
-// A byte stands as it is, or as its two digits.
-fn append_one(line: &mut [u8], at: usize, byte: u8, as_digits: bool) -> usize {
-    if as_digits {
-        return append_byte(line, at, byte);
-    }
-    put(line, at, byte)
-}
-
-// The bytes stand in their own order, with nothing between them.
-fn append_each(line: &mut [u8], at: usize, bytes: &[u8], as_digits: bool) -> usize {
-    let mut end = at;
-    let mut index = 0;
-    while index < bytes.len() {
-        end = append_one(line, end, bytes[index], as_digits);
-        index += 1;
-    }
-    end
-}
-
-pub fn append(line: &mut [u8], at: usize, text: &[u8]) -> usize {
-    append_each(line, at, text, false)
-}
-
-// A number below 2 ^ 64 has at most so many decimal digits.
-const MOST_DIGITS: usize = 20;
-
-fn digit_of(number: u64) -> u8 {
-    b'0' + (number % 10) as u8
-}
-
-// The library's `io::decimal` divides by a base that it is given; a division by a constant is a multiplication.
-pub fn append_decimal(line: &mut [u8], at: usize, number: u64) -> usize {
-    let mut digits = [b'0'; MOST_DIGITS];
-    let mut first = MOST_DIGITS;
-    let mut rest = number;
-    while 0 < first {
-        first -= 1;
-        digits[first] = digit_of(rest);
-        rest = rest / 10;
-        if rest == 0 {
-            return append(line, at, &digits[first..]);
-        }
-    }
-    append(line, at, &digits)
-}
-
-// The number has a space before it.
-pub fn append_field(line: &mut [u8], at: usize, number: u8) -> usize {
-    let at = put(line, at, b' ');
-    append_decimal(line, at, number as u64)
-}
-
-// An edition by its number, with a space before it: 21 stands as 2.1.
-pub fn append_edition(line: &mut [u8], at: usize, number: u8) -> usize {
-    let at = append_field(line, at, number / 10);
-    let at = put(line, at, b'.');
-    append_decimal(line, at, (number % 10) as u64)
-}
-
 // The library's `io::hex` has lower case digits.
-fn digit(value: u8) -> u8 {
-    let low = value % 16;
-    if low < 10 {
-        b'0' + low
+fn digit(value: u8) -> u8
+    requires { value < 16 }
+    ensures { result ≡ digit_glyph true value }
+{
+    if value < 10 {
+        b'0' + value
     } else {
-        b'A' + (low - 10)
+        b'A' + (value - 10)
     }
 }
 
-fn append_byte(line: &mut [u8], at: usize, byte: u8) -> usize {
-    let middle = put(line, at, digit(byte / 16));
-    put(line, middle, digit(byte % 16))
+#[derive(Drop)]
+pub struct Line<const N: usize> {
+    bytes: [u8; N],
+    end: usize,
 }
 
-pub fn append_half(line: &mut [u8], at: usize, half: u16) -> usize {
-    let middle = append_byte(line, at, (half / 256) as u8);
-    append_byte(line, middle, (half % 256) as u8)
+// Clauses see what the line says so far.
+impl<const N: usize> Model for Line<N> {
+    ghost Value = { List ℕ };
+
+    ghost view = { λ line. take line.end line.bytes };
+
+    ghost invariant = { λ line. line.end ≤ N };
 }
 
-pub fn append_word(line: &mut [u8], at: usize, word: u32) -> usize {
-    let middle = append_half(line, at, (word / 65536) as u16);
-    append_half(line, middle, (word % 65536) as u16)
-}
-
-pub fn append_bytes(line: &mut [u8], at: usize, bytes: &[u8]) -> usize {
-    append_each(line, at, bytes, true)
-}
-
-// The bytes have a space before them.
-pub fn append_spaced_bytes(line: &mut [u8], at: usize, bytes: &[u8]) -> usize {
-    let at = put(line, at, b' ');
-    append_bytes(line, at, bytes)
-}
-
-// The word has a space before it.
-pub fn append_spaced_word(line: &mut [u8], at: usize, word: u32) -> usize {
-    let at = put(line, at, b' ');
-    append_word(line, at, word)
-}
-
-// Each word has a space before it.
-pub fn append_words(line: &mut [u8], at: usize, words: &[u32]) -> usize {
-    let mut end = at;
-    let mut index = 0;
-    while index < words.len() {
-        end = append_spaced_word(line, end, words[index]);
-        index += 1;
+impl<const N: usize> Line<N> {
+    pub fn new() -> Self
+        ensures { result ≡ [] }
+    {
+        Line {
+            bytes: [0; N],
+            end: 0,
+        }
     }
-    end
+
+    // A line that starts with a number and a text.
+    pub fn numbered(number: u64, text: &[u8]) -> Self
+        ensures { result ≡ with_text N [] (decimal number ++ text.now) }
+    {
+        let mut line = Line::new();
+        line.decimal(number);
+        line.text(text);
+        line
+    }
+
+    // What the line says so far.
+    pub fn said(&self) -> &[u8]
+        ensures { result.now ≡ self.now }
+    {
+        &self.bytes[..self.end]
+    }
+
+    // Writes what the line says so far.
+    pub fn print(&self) {
+        io::write_all(STDOUT, self.said());
+    }
+
+    // Ends the line and writes it.
+    pub fn print_line(&mut self)
+        ensures { self.new ≡ with_text N self.old (10 ∷ []) }
+    {
+        self.byte(b'\n');
+        self.print();
+    }
+
+    // Writes the text and begins anew where there is less room than wanted.
+    pub fn make_room(&mut self, wanted: usize)
+        ensures kept { length self.old + wanted ≤ N → self.new ≡ self.old }
+        ensures begun { N < length self.old + wanted → self.new ≡ [] }
+    {
+        if N - self.end < wanted {
+            self.print();
+            self.end = 0;
+        }
+    }
+
+    pub fn byte(&mut self, byte: u8)
+        ensures { self.new ≡ with_text N self.old (byte ∷ []) }
+    {
+        if self.end < N {
+            self.bytes[self.end] = byte;
+            self.end += 1;
+        }
+    }
+
+    pub fn text(&mut self, text: &[u8])
+        ensures { self.new ≡ with_text N self.old text.now }
+    {
+        let count = text.len().min(N - self.end);
+        let bytes = &mut self.bytes[..];
+        bytes[self.end..self.end + count].copy_from_slice(&text[..count]);
+        self.end += count;
+    }
+
+    // The library takes two digits from each division.
+    pub fn decimal(&mut self, number: u64)
+        ensures { self.new ≡ with_text N self.old (decimal number) }
+    {
+        self.text(itoa::Buffer::new().format(number).as_bytes());
+    }
+
+    // The number has a space before it.
+    pub fn field<T: Into<u64>>(&mut self, number: T)
+        ensures { (n : ℕ) × T.converts number n × (self.new ≡ with_text N self.old (spaced (decimal n))) }
+    {
+        self.byte(b' ');
+        self.decimal(number.into());
+    }
+
+    // An edition by its number, with a space before it: 21 stands as 2.1.
+    pub fn edition(&mut self, number: u8)
+        ensures { self.new ≡ with_text N self.old (spaced (edition_text number)) }
+    {
+        self.field(number / 10);
+        self.byte(b'.');
+        self.decimal(u64::from(number % 10));
+    }
+
+    // Each byte stands as its two digits, with nothing between them.
+    pub fn bytes(&mut self, bytes: &[u8])
+        ensures { self.new ≡ with_text N self.old (hex_bytes bytes.now) }
+    {
+        for byte in bytes {
+            self.text(&[digit(byte / 16), digit(byte % 16)]);
+        }
+    }
+
+    pub fn half(&mut self, half: u16)
+        ensures { self.new ≡ with_text N self.old (hex_bytes (to_be_bytes w16 half)) }
+    {
+        self.bytes(&half.to_be_bytes());
+    }
+
+    pub fn word(&mut self, word: u32)
+        ensures { self.new ≡ with_text N self.old (hex_word word) }
+    {
+        self.bytes(&word.to_be_bytes());
+    }
+
+    // The bytes have a space before them.
+    pub fn spaced_bytes(&mut self, bytes: &[u8])
+        ensures { self.new ≡ with_text N self.old (spaced (hex_bytes bytes.now)) }
+    {
+        self.byte(b' ');
+        self.bytes(bytes);
+    }
+
+    // The word has a space before it.
+    pub fn spaced_word(&mut self, word: u32)
+        ensures { self.new ≡ with_text N self.old (spaced (hex_word word)) }
+    {
+        self.byte(b' ');
+        self.word(word);
+    }
+
+    // Each word has a space before it.
+    pub fn words(&mut self, words: &[u32])
+        ensures { self.new ≡ with_text N self.old (hex_words words.now) }
+    {
+        for word in words {
+            self.spaced_word(*word);
+        }
+    }
+
+    // What a line has where there is nothing to tell.
+    pub fn nothing(&mut self)
+        ensures { self.new ≡ with_text N self.old (spaced (45 ∷ [])) }
+    {
+        self.text(b" -");
+    }
 }
 
-// What a line has where there is nothing to tell.
-pub fn append_nothing(line: &mut [u8], at: usize) -> usize {
-    append(line, at, b" -")
+// What `write!` writes goes behind the text, and is an error where it finds no room.
+impl<const N: usize> fmt::Write for Line<N> {
+    ghost write_str_gives = { λ line text after. after ≡ line ++ text };
+
+    fn write_str(&mut self, s: &str) -> fmt::Result {
+        if N - self.end < s.len() {
+            return Err(fmt::Error);
+        }
+        self.text(s.as_bytes());
+        Ok(())
+    }
 }

@@ -5,11 +5,11 @@
 mod read_vector;
 mod write_vector;
 
-use streams::finish::{Finish, MOST, STDOUT, Turn, print_finish};
-use streams::input::{Byte, read_byte};
-use text::line::{append, append_decimal};
+use streams::finish::{STDOUT, Stop, answer_each};
+use streams::input::read_byte;
+use text::line;
 
-// The kinds of vector.
+// The kinds of vector: each is met in one place, so an enum of them would only say them again.
 const READ: u8 = 1;
 
 const WRITE: u8 = 2;
@@ -18,39 +18,18 @@ const WRITE: u8 = 2;
 // a space, 255 bytes of two digits each and the line end.
 const LONGEST: usize = 529;
 
-// A line starts with the vector's number and what the vector asks.
-fn begin_line(line: &mut [u8], number: u64, asked: &[u8]) -> usize {
-    let at = append_decimal(line, 0, number);
-    append(line, at, asked)
-}
+// It starts with the vector's number and what the vector asks.
+type Line = line::Line<LONGEST>;
 
-fn answer_next(number: u64) -> Turn {
-    let Byte::Read(kind) = read_byte() else {
-        return Turn::Ended;
-    };
-    match kind {
+fn answer_next(number: u64) -> Result<(), Stop> {
+    match read_byte().ok_or(Stop::Ended)? {
         READ => read_vector::answer(number),
         WRITE => write_vector::answer(number),
-        _ => Turn::Unknown,
-    }
-}
-
-fn answer_all() -> Finish {
-    let mut answered: u64 = 0;
-    while answered < MOST {
-        let turn = answer_next(answered + 1);
-        let Turn::Answered = turn else {
-            return Finish { turn, answered };
-        };
-        answered += 1;
-    }
-    Finish {
-        turn: Turn::Ended,
-        answered,
+        _ => Err(Stop::Unknown),
     }
 }
 
 fn main() {
     io::write_all(STDOUT, b"vector answer\n");
-    print_finish(answer_all(), b" vectors\n");
+    answer_each(0, answer_next).print(b" vectors\n");
 }

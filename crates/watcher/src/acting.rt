@@ -1,116 +1,52 @@
-// What an event makes the laptop end do.
+// What an event makes the laptop end do, and the line that it gets.
 use crate::BLOCK;
-use crate::state::{State, unread};
-use driving::calls::make_call;
-use events::{Call, Event};
-use laptop::RUN_WORDS;
-use port::{Port, Side, Step};
-use streams::input::word_of;
+use driving::fields::{add_held, add_outcome};
+use driving::owning::{Owner, outcome_of, sends};
+use events::Event;
+use messages::Refusal;
+use port::Side;
+use text::line::Line;
 
 // A request is one object.
 const OBJECT: usize = 4;
 
-// The port's step, the event's side, and the header of the request where one is to be sent.
+// The event's side, what its call led to, and the header of the request where one is to be sent.
 #[derive(Clone, Copy)]
 pub struct Answer {
-    pub step: Step,
-    pub side: Side,
-    pub header: u32,
-}
-
-// The bytes of a message, which stand behind its kind: they are all there, and testing it spares the proof.
-fn message_in(state: State, input: &[u8; BLOCK], count: u8) -> &[u8] {
-    let bytes = unread(state, input);
-    let end = 1 + (count as usize) * OBJECT;
-    if end <= bytes.len() {
-        return &bytes[1..end];
-    }
-    bytes
-}
-
-fn make(
-    port: Port,
     side: Side,
-    call: Call,
-    svids: &[u16; 72],
-    run: &[u32; RUN_WORDS],
-    held_svids: &[u16; 72],
-    held_modes: &[u8; 72],
-    held_run: &[u32; RUN_WORDS],
-    entered: &[u8; 72],
-) -> Answer {
-    let mut request = [0u8; OBJECT];
-    let step = make_call(
-        port,
-        side,
-        call,
-        svids,
-        run,
-        held_svids,
-        held_modes,
-        held_run,
-        entered,
-        &mut request,
-    );
-    Answer {
-        step,
-        side,
-        header: word_of(&request),
-    }
+    outcome: Result<(), Refusal>,
+    sent: Option<u32>,
 }
 
-// Nothing is sent where a message is heard.
-fn heard(step: Step, side: Side) -> Answer {
-    Answer {
-        step,
-        side,
-        header: 0,
-    }
-}
-
-pub fn side_of(event: Event) -> Side {
+// The bytes of a message stand behind its kind.
+pub fn act(owner: &mut Owner, event: Event, body: &[u8]) -> Answer {
     match event {
-        Event::Message(side, _) => side,
-        Event::Call(side, _) => side,
-    }
-}
-
-// It is lent its own side's arrays.
-pub fn act(
-    state: State,
-    event: Event,
-    input: &[u8; BLOCK],
-    svids: &mut [u16; 72],
-    modes: &mut [u8; 72],
-    identity: &mut [u32; 6],
-    run: &mut [u32; RUN_WORDS],
-    held_svids: &mut [u16; 72],
-    held_modes: &mut [u8; 72],
-    held_identity: &mut [u32; 6],
-    held_run: &mut [u32; RUN_WORDS],
-    entered: &mut [u8; 72],
-) -> Answer {
-    let port = state.port;
-    match event {
-        Event::Message(side, objects) => {
-            let step = port::message(
-                port,
+        Event::Message(side, _) => Answer {
+            side,
+            outcome: outcome_of(owner.hear(side, body)),
+            sent: None,
+        },
+        Event::Call(side, call) => {
+            let mut request = [0; OBJECT];
+            let stepped = owner.make(side, call, &mut request);
+            Answer {
                 side,
-                message_in(state, input, objects),
-                svids,
-                modes,
-                identity,
-                run,
-                held_svids,
-                held_modes,
-                held_identity,
-                held_run,
-                entered,
-            );
-            heard(step, side)
+                outcome: outcome_of(stepped),
+                sent: sends(stepped).then_some(u32::from_le_bytes(request)),
+            }
         }
-        Event::Call(side, call) => make(
-            port, side, call, svids, run, held_svids, held_modes, held_run, entered,
-        ),
     }
+}
+
+pub fn add_answer(lines: &mut Line<BLOCK>, number: u64, answer: Answer, owner: &Owner) {
+    let laptop = owner.laptop(answer.side);
+    lines.decimal(number);
+    add_outcome(lines, answer.outcome);
+    match answer.sent {
+        Some(header) => lines.spaced_word(header),
+        None => lines.nothing(),
+    }
+    lines.field(laptop.pages);
+    add_held(lines, laptop.held);
+    lines.byte(b'\n');
 }

@@ -1,6 +1,7 @@
 -- `port_from` meets its promise.
-use Rattle.controller.proofs.PortNumbers.{port_is}
+use Rattle.controller.specs.Port.{port_from}
 use Rattle.controller.proofs.port_state.port_from.Goals as goal
 
 pub returns : goal.returns
-returns c = port_is _ c.wait_in.ensures c.own_from.ensures c.own_from-2.ensures
+unfolding port_from
+returns c = rw (c.wait_in.ensures, c.own_from.ensures, c.own_from-2.ensures)

@@ -1,9 +1,11 @@
 -- `put_port` meets its promise.
-use Rattle.controller.proofs.LaptopHanding.{put_same, put_other}
+use Rattle.controller.specs.Port.{numbers_after}
 use Rattle.controller.proofs.port_writing.put_port.Goals as goal
 
-pub returns-then-stands_for : goal.returns-then-stands_for
-returns-then-stands_for c = put_same _ _ c.stands_for.ensures c.if-stands_for.true
+pub returns-then-not-stands_for : goal.returns-then-not-stands_for
+unfolding numbers_after
+returns-then-not-stands_for c = rw (← c.stands_for.ensures, c.if-not-stands_for.true) c.write_port.ensures
 
-pub returns : goal.returns
-returns c = put_other _ _ c.stands_for.ensures c.if-stands_for.false c.write_port.ensures
+pub returns-else-not-stands_for : goal.returns-else-not-stands_for
+unfolding numbers_after
+returns-else-not-stands_for c = rw (← c.stands_for.ensures, c.if-not-stands_for.false)

@@ -1,14 +1,18 @@
 -- `stands_for` meets its promise.
-use mathlib.Core.Path.{ap}
-use mathlib.Core.Bool.{not}
-use Rattle.controller.proofs.PortSame.{other_wait, other_partner, only_cable}
+use native.Mathlib.Omega.{arith}
+use Rattle.std.proofs.lemmas.Grind.{common_steps}
+use Rattle.controller.proofs.PortSame.{same_port}
+use Rattle.controller.proofs.port_writing.stands_for.Goals.{then-same_wait, else-same_wait}
 use Rattle.controller.proofs.port_writing.stands_for.Goals as goal
 
-pub returns-then-not-same_wait : goal.returns-then-not-same_wait
-returns-then-not-same_wait c = other_wait _ c.args.port c.wait_in.ensures c.same_wait.ensures (ap not c.if-not-same_wait.true)
+pub returns-then-same_own : goal.returns-then-same_own
+returns-then-same_own c = rw (same_port c.args.state.now c.args.port) (elim c.if-same_wait.branch [
+  then-same_wait w ↦ grind (arith, common_steps)
+| else-same_wait w ↦ grind (arith, common_steps)
+])
 
-pub returns-then-not-same_own : goal.returns-then-not-same_own
-returns-then-not-same_own c = other_partner _ c.args.port c.wait_in.ensures c.same_wait.ensures (ap not c.if-not-same_wait.false) c.own_from.ensures c.same_own.ensures (ap not c.if-not-same_own.true)
-
-pub returns : goal.returns
-returns c = only_cable _ c.args.port c.wait_in.ensures c.same_wait.ensures (ap not c.if-not-same_wait.false) c.own_from.ensures c.same_own.ensures (ap not c.if-not-same_own.false) c.own_from-2.ensures c.same_own-2.ensures
+pub returns-else-same_own : goal.returns-else-same_own
+returns-else-same_own c = rw (same_port c.args.state.now c.args.port) (elim c.if-same_wait.branch [
+  then-same_wait w ↦ grind (arith, common_steps)
+| else-same_wait w ↦ grind (arith, common_steps)
+])

@@ -1,11 +1,15 @@
 -- `hand_over` meets its promise.
-use mathlib.Core.Path.{refl, ◌∙◌}
-use Rattle.controller.proofs.Accepting.{accepted_written, accepted_kept}
-use Rattle.controller.proofs.LaptopHanding.{handed_as}
+use mathlib.Core.Path.{refl, sym, ◌∙◌}
+use Rattle.laws.specs.Lent.{accepted}
+use Rattle.messages.proofs.Refusals.{numbered}
+use Rattle.controller.proofs.Accepting.{accepted_kept}
 use Rattle.controller.proofs.told.hand_over.Goals as goal
 
-pub returns-then-step-eq0 : goal.returns-then-step-eq0
-returns-then-step-eq0 c = (refl, handed_as c.args.step c.side_number.ensures c.told_numbers-over.ensures ∙ accepted_written _ _ _ c.if-step-eq0.true)
+pub returns-in-Ok : goal.returns-in-Ok
+unfolding accepted
+returns-in-Ok c = rw c.in-Ok.is (refl, c.put_port.ensures, rw (← c.side_number.ensures) c.told_numbers.ensures)
 
-pub returns-else-step-eq0 : goal.returns-else-step-eq0
-returns-else-step-eq0 c = (refl, accepted_kept _ _ _ c.if-step-eq0.false)
+pub returns-in-Err : goal.returns-in-Err
+returns-in-Err c =
+    rw c.in-Err.is
+    (c.from.ensures, c.put_port-in-Err.ensures, accepted_kept _ _ _ (λ e. numbered c.in-Err.refused.refusal (sym c.from.ensures ∙ e)))

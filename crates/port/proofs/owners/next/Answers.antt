@@ -1,9 +1,15 @@
 -- `next` meets its promise.
+use mathlib.Core.Path.{◌≡◌}
+use native.Mathlib.Omega.{arith}
+use Rattle.std.specs.Prelude.{Err}
+use Rattle.std.proofs.lemmas.Grind.{common_steps}
 use Rattle.port.proofs.Calling.{owners_refused, owners_decided}
 use Rattle.port.proofs.owners.next.Goals as goal
 
-pub returns-then-number-ne0 : goal.returns-then-number-ne0
-returns-then-number-ne0 c = owners_refused c.args.side c.args.port _ _ _ c.owners_refusal-number.ensures c.if-number-ne0.true c.refused_on.ensures
+pub returns-in_err-laptop : goal.returns-in_err-laptop
+returns-in_err-laptop c =
+    let e : c.from_residual.result ≡ Err c.in_err-laptop.field-0.0 = grind (arith, common_steps) in
+    rw e (owners_refused c.args.side c.args.port _ _ _ _ c.in_err-laptop.ensures)
 
 pub returns : goal.returns
-returns c = owners_decided c.args.side c.args.port _ _ _ c.owners_refusal-number.ensures c.if-number-ne0.false c.seen.ensures c.next.ensures c.stepped_on.ensures
+returns c = owners_decided c.args.side c.args.port _ _ _ c.in_ok-laptop.ensures c.next.ensures c.stepped_on.ensures

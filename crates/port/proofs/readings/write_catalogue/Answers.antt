@@ -1,6 +1,9 @@
 -- `write_catalogue` meets its promise.
-use Rattle.port.proofs.Calling.{held_seen, written_as}
+use mathlib.Core.Path.{ap}
+use Rattle.laptop.specs.declared.Laptop.{Laptop}
+use Rattle.port.specs.Sides.{seen}
 use Rattle.port.proofs.readings.write_catalogue.Goals as goal
 
 pub returns : goal.returns
-returns c = written_as _ _ _ _ (held_seen c.args.side c.args.port c.seen.ensures) c.write_catalogue.ensures
+unfolding seen
+returns c = rw (ap (λ (l : Laptop). l.held) c.seen.ensures) at c.write_catalogue.ensures

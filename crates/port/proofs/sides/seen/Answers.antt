@@ -1,6 +1,9 @@
 -- `seen` meets its promise.
-use Rattle.port.proofs.Waits.{seen_is}
+use Rattle.std.proofs.lemmas.Grind.{common_steps}
+use native.Mathlib.Omega.{arith}
+use Rattle.port.specs.Sides.{seen}
 use Rattle.port.proofs.sides.seen.Goals as goal
 
 pub returns : goal.returns
-returns c = seen_is c.args.side c.args.port c.wait_seen.ensures c.own_of-own.ensures
+unfolding seen
+returns c = rw (c.wait_seen.ensures, c.own_of-own.ensures)

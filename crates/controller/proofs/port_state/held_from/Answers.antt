@@ -1,9 +1,0 @@
--- `held_from` meets its promise.
-use borrow.Author.Tests.{eq-eqb, ne_eqb}
-use Rattle.controller.proofs.port_state.held_from.Goals as goal
-
-pub returns-then-tag-eq1 : goal.returns-then-tag-eq1
-returns-then-tag-eq1 c = rw (eq-eqb _ _ c.if-tag-eq1.true)
-
-pub returns : goal.returns
-returns c = rw (ne_eqb _ _ c.if-tag-eq1.false)

@@ -1,0 +1,48 @@
+// Objects behind a header, at most as many as a message has room for.
+use laptop::MODES_EACH;
+use messages::first;
+use streams::finish::Stop;
+use streams::input::{fill_words, read_byte};
+
+#[derive(Clone, Copy)]
+pub struct Objects {
+    words: [u32; MODES_EACH],
+    count: usize,
+}
+
+impl Objects {
+    // So many times the word.
+    pub fn of(word: u32, count: usize) -> Objects {
+        Objects {
+            words: [word; MODES_EACH],
+            count,
+        }
+    }
+
+    pub fn none() -> Objects {
+        Objects::of(0, 0)
+    }
+
+    pub fn words(&self) -> &[u32] {
+        first(&self.words, self.count)
+    }
+}
+
+// A byte says how many numbers follow it, which go to the first of those that are lent; nothing where they are cut or too many.
+pub(crate) fn read_some<T, F: FnOnce(&mut [T]) -> Result<(), Stop>>(
+    numbers: &mut [T],
+    fill: F,
+) -> Option<&[T]>
+    requires { F.IsAlwaysCallable fill }
+{
+    let count = usize::from(read_byte()?);
+    let read = numbers.get_mut(..count)?;
+    fill(read).ok()?;
+    Some(read)
+}
+
+pub(crate) fn read_objects() -> Option<Objects> {
+    let mut words = [0; MODES_EACH];
+    let count = read_some(&mut words, fill_words)?.len();
+    Some(Objects { words, count })
+}

@@ -1,0 +1,22 @@
+-- What a call gives back, by 01's numbers: the refusal, 0 for none; how many bytes of the output buffer are to be sent; what policy
+-- is told, and of which side; and the new state.
+use Rattle.std.specs.Prelude.{ℕ, Result, Ok, Err}
+use Rattle.messages.specs.Refusals.{number_of}
+use Rattle.laptop.specs.declared.Told.{Told}
+use Rattle.laptop.specs.declared.Told.TheVariants.{Nothing}
+use Rattle.port.specs.declared.Accepted.{Accepted}
+use Rattle.port.specs.declared.Port.{Port}
+use Rattle.port.specs.declared.Refused.{Refused}
+use Rattle.port.specs.declared.Side.{Side}
+
+pub record Step : Type 0 where
+  pub refusal : ℕ
+  pub length : ℕ
+  pub told : Told
+  pub side : Side
+  pub port : Port
+
+-- how the code gives it back
+abbrev pub stepped : Result Accepted Refused → Step
+stepped (Ok a) = record { refusal = 0; length = a.length; told = a.told; side = a.side; port = a.port }
+stepped (Err r) = record { refusal = number_of r.refusal; length = 0; told = Nothing; side = r.side; port = r.port }

@@ -1,2 +1,0 @@
--- What the programs' loops share.
-pub mod Budget

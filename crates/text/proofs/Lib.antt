@@ -1,0 +1,2 @@
+-- Lemmas on what a line says.
+pub mod Text

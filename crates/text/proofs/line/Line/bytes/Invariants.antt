@@ -1,0 +1,7 @@
+-- `text::line::Line::bytes` meets its contract. The line has the bytes so far.
+use Rattle.std.proofs.Common.{◌≡◌, take}
+use Rattle.text.specs.Text.{with_text, hex_bytes}
+use Rattle.text.proofs.line.Line.bytes.Given as goal
+
+abbrev pub invariant-loop-byte : goal.invariant-loop-byte
+invariant-loop-byte g l = l.self ≡ with_text g.row.N l.initial.self (hex_bytes (take l.byte-index l.bytes))

@@ -18,7 +18,9 @@ use Rattle.messages.specs.Refusals.{number_of}
 use Rattle.messages.specs.declared.Head.{Head}
 use Rattle.messages.specs.declared.edition.Edition.{Edition}
 use Rattle.messages.specs.declared.refusal.Refusal.{Refusal}
-use Rattle.messages.specs.declared.refusal.Refusal.TheVariants.{WrongLength}
+use Rattle.messages.specs.declared.refusal.Refusal.TheVariants.{WrongLength, Unstructured, WrongMajor, WrongShape, Unawaited, Waiting, BadAnswer, NotNow}
+use Rattle.messages.specs.declared.refusal.Refusal.TheVariants.{BadData, TooShort, NotHeld, Blocked, Endless}
+use Rattle.messages.specs.declared.refusal.Refusal.TheVariants.{UnknownKind, CutRecord, OutOfOrder, BytesAfterEnd, NoIdentity}
 use Rattle.std.specs.Prelude.{Ok, Err}
 use Rattle.messages.proofs.Objects.{length_objects}
 
@@ -94,6 +96,35 @@ refusal_header b e = simp e
 -- a refusal has a number
 pub numbered : (refusal : Refusal) → number_of refusal ≡ 0 → ⊥
 numbered refusal e = grind arith
+
+-- and no other has the same
+abbrev names : List Refusal
+names =
+    WrongLength ∷ WrongLength ∷ Unstructured ∷ WrongMajor ∷ WrongLength ∷ WrongShape ∷ Unawaited ∷ Waiting ∷ BadAnswer ∷ NotNow ∷ BadData ∷ TooShort ∷
+    NotHeld ∷ Blocked ∷ Endless ∷ UnknownKind ∷ CutRecord ∷ OutOfOrder ∷ BytesAfterEnd ∷ NoIdentity ∷ []
+
+name_of : (refusal : Refusal) → get_or names (number_of refusal) WrongLength ≡ refusal
+name_of WrongLength = refl
+name_of Unstructured = refl
+name_of WrongMajor = refl
+name_of WrongShape = refl
+name_of Unawaited = refl
+name_of Waiting = refl
+name_of BadAnswer = refl
+name_of NotNow = refl
+name_of BadData = refl
+name_of TooShort = refl
+name_of NotHeld = refl
+name_of Blocked = refl
+name_of Endless = refl
+name_of UnknownKind = refl
+name_of CutRecord = refl
+name_of OutOfOrder = refl
+name_of BytesAfterEnd = refl
+name_of NoIdentity = refl
+
+pub same_number : (p q : Refusal) → number_of p ≡ number_of q → p ≡ q
+same_number p q e = sym (name_of p) ∙ ap (λ (n : ℕ). get_or names n WrongLength) e ∙ name_of q
 
 -- what the code returns on each way out
 module _ (b : List ℕ) where

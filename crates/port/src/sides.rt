@@ -31,7 +31,11 @@ fn wait_seen(side: Side, wait: Option<(Side, Request)>) -> Option<Request>
 }
 
 // What a side awaits afterwards; what the other awaits stays.
-fn wait_put(side: Side, after: Option<Request>, before: Option<(Side, Request)>) -> Option<(Side, Request)>
+fn wait_put(
+    side: Side,
+    after: Option<Request>,
+    before: Option<(Side, Request)>,
+) -> Option<(Side, Request)>
     ensures { result ≡ wait_put side after before }
 {
     if is_others(side, before) {

@@ -12,8 +12,8 @@ pub record Fault : Type 0 where
   pub number : ℕ
   pub at : ℕ
 
--- what is given back. A refusal writes nothing; a sound file comes out the same; any other that has its identity is mended, and what comes out is a part of
--- what it was
+-- what is given back. A refusal writes nothing; a sound file comes out the same; any other that has its identity is
+-- mended, and what comes out is a part of what it was
 pub data Mended : Type 0 where
   Refused : ℕ → Mended
   Sound : Kept → Mended

@@ -13,8 +13,8 @@ pub use keeping::Kept;
 use keeping::{kept_of, put_kept};
 use messages::Refusal;
 
-// A sound file comes out the same; any other that has its identity is mended, and what comes out is a part of what it was. The fault is the file's first: its
-// refusal is 15 to 18, and it stands at the offset of its record.
+// A sound file comes out the same; any other that has its identity is mended, and what comes out is a part of what it
+// was. The fault is the file's first: its refusal is 15 to 18, and it stands at the offset of its record.
 #[derive(Clone, Copy)]
 pub enum Mended {
     Sound(Kept),
@@ -37,7 +37,8 @@ fn outcome(judged: Result<Walk, Stopped>, kept: Kept) -> Mended
     }
 }
 
-// Mends the file into a second buffer: refused 19 if it has no whole identity at its front, then 11 if the buffer is too short. A refusal writes nothing.
+// Mends the file into a second buffer: refused 19 if it has no whole identity at its front, then 11 if the buffer is
+// too short. A refusal writes nothing.
 pub fn mend_catalogue(bytes: &[u8], out: &mut [u8]) -> Result<Mended, Refusal>
     ensures { (mended_in result, out.new) ≡ mending_of bytes.now out.old }
 {

@@ -10,7 +10,7 @@ use Rattle.port.specs.declared.Side.TheVariants.{Partner, Cable}
 use Rattle.events.specs.declared.Call.{Call}
 use Rattle.events.specs.declared.Call.TheVariants.{Next, StartOver, Drop, ResponseTimer, EntryTimer, ExitTimer, ProtocolError, Enter, Exit}
 use Rattle.driving.specs.declared.lending.Lent.{Lent}
-use Rattle.driving.specs.declared.lending.Memory.{Memory}
+use Rattle.driving.specs.declared.memory.Memory.{Memory}
 
 -- what a side is lent
 abbrev pub memory_of : Side → Lent → Memory

@@ -1,56 +1,17 @@
 // What the laptop end's owner lends its calls.
-ghost use Rattle.std.specs.Prelude.{◌≡◌, ◌≤◌, replicate};
+ghost use Rattle.std.specs.Prelude.{◌≡◌, replicate};
 ghost use Rattle.laptop.specs.State.{LentMemory};
 ghost use Rattle.port.specs.Calls.{HearsOn};
 ghost use Rattle.port.specs.Sides.{fresh_port};
 ghost use Rattle.port.specs.Step.{stepped};
 ghost use Rattle.driving.specs.Lending.{memory_of, Made};
 
+use crate::memory::{Memory, RUN};
 use events::Call;
 use messages::Refusal;
 use port::{Accepted, Port, Refused, Side, write_catalogue};
 
-// More words than a run needs.
-pub const RUN: usize = 440;
-
-// What the calls for a side are lent; the names are those of the laptop's `Memory`. Of the runs so many words are lent.
-#[derive(Clone, Copy)]
-pub struct Memory {
-    pub svids: [u16; 72],
-    pub modes: [u8; 72],
-    pub identity: [u32; 6],
-    pub run: [u32; RUN],
-    pub held_svids: [u16; 72],
-    pub held_modes: [u8; 72],
-    pub held_identity: [u32; 6],
-    pub held_run: [u32; RUN],
-    pub entered: [u8; 72],
-    pub run_words: usize,
-    pub held_words: usize,
-    ghost run_within: { run_words ≤ 440 },
-    ghost held_within: { held_words ≤ 440 },
-}
-
 impl Memory {
-    // Runs that are full of a word.
-    fn new(word: u32) -> Memory
-        ensures { result.run ≡ replicate 440 word }
-    {
-        Memory {
-            svids: [0; 72],
-            modes: [0; 72],
-            identity: [0; 6],
-            run: [word; RUN],
-            held_svids: [0; 72],
-            held_modes: [0; 72],
-            held_identity: [0; 6],
-            held_run: [word; RUN],
-            entered: [0; 72],
-            run_words: RUN,
-            held_words: RUN,
-        }
-    }
-
     // What a message gave. It may write to all that its side is lent.
     fn hear(&mut self, port: Port, side: Side, bytes: &[u8]) -> Result<Accepted, Refused>
         ensures { (m : LentMemory) × HearsOn side port bytes.now m (stepped result) }

@@ -6,4 +6,5 @@ pub mod digest;
 pub mod fields;
 pub mod lending;
 pub mod line;
+pub mod memory;
 pub mod owning;

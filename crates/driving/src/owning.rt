@@ -4,7 +4,8 @@ ghost use Rattle.messages.specs.Refusals.{number_in};
 ghost use Rattle.port.specs.Sides.{seen as Sides·seen};
 ghost use Rattle.port.specs.Step.{stepped};
 
-use crate::lending::{Lent, Memory};
+use crate::lending::Lent;
+use crate::memory::Memory;
 use events::Call;
 use laptop::Laptop;
 use messages::Refusal;

@@ -12,8 +12,7 @@ use Rattle.laptop.specs.State.{Memory, LentMemory}
 use Rattle.laptop.specs.declared.Laptop.{Laptop}
 use Rattle.laptop.specs.Step.{Step as LaptopAsStep}
 use Rattle.hearing.specs.Hearing.{heard}
-use Rattle.catalogue.specs.Bytes.{HeldCatalogue, held_catalogue, CatalogueWritten}
-use Rattle.catalogue.specs.Bytes.{Bytes}
+use Rattle.catalogue.specs.Bytes.{Bytes, HeldCatalogue, held_catalogue, CatalogueWritten}
 use Rattle.port.specs.Calls.{Owners, concerning}
 use Rattle.port.specs.Sides.{own_of, seen, stepped_on}
 use Rattle.port.specs.declared.Port.{Port}

@@ -45,10 +45,14 @@ pub own_stored : (s : List ℕ) (at : ℕ) (own : Own) {candidate edition : ℕ}
     whole ≡ sets (set (set (set (set (set s at candidate) (at + 1) own.gathered.extent) (at + 2) own.gathered.count) (at + 3) own.stored) (at + 4) own.pages) (at + 5) held →
     set whole (at + 8) edition ≡ sets s at (own_numbers own)
 unfolding own_numbers
-own_stored s at own {edition = edition} {held} e f g h =
-    let eight : at + 5 + length held ≡ at + 8 = rw f (omega (arith, held_length own.held)) in
-    rw h (ap (λ (k : ℕ). set (sets _ (at + 5) held) k edition) (sym eight) ∙ sym (sets_append _ (at + 5) held (edition ∷ []))) ∙
-    rw (e, f, g, add-one, add-two, add-three, add-four, add_five)
+own_stored s at own {candidate} {edition} {held} {whole} e f g h =
+    let five : List ℕ = set (set (set (set (set s at candidate) (at + 1) own.gathered.extent) (at + 2) own.gathered.count) (at + 3) own.stored) (at + 4) own.pages in
+    let eight : at + 5 + length held ≡ at + 8 = omega (arith, ap length f, held_length own.held) in
+    let behind : set whole (at + 8) edition ≡ sets five (at + 5) (held ++ (edition ∷ [])) =
+    ap (λ (w : List ℕ). set w (at + 8) edition) h ∙ ap (λ (k : ℕ). set (sets five (at + 5) held) k edition) (sym eight) ∙
+    sym (sets_append five (at + 5) held (edition ∷ [])) in
+    let all : sets five (at + 5) (held ++ (edition ∷ [])) ≡ sets s at (own_numbers own) = rw (e, f, g, add-one, add-two, add-three, add-four, add_five) in
+    behind ∙ all
 
 pub port_stored : (s : List ℕ) (p : Port) → length s ≡ 22 → {first second third : List ℕ} → first ≡ sets s 0 (wait_numbers p.wait) →
     second ≡ sets first 4 (own_numbers p.partner) → third ≡ sets second 13 (own_numbers p.cable) → third ≡ port_numbers p

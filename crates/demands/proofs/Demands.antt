@@ -1,7 +1,6 @@
 -- The three demands, as theorems about the definitions that the promises of the code cite. Every public function promises that its result is the
 -- one that its definition gives, for all arguments: it has no `requires`, and it finishes (docs/PROMISES.md).
 use mathlib.Core.Logic.{◌⊎◌, ◌↔◌}
-use mathlib.Core.Option.{some}
 use mathlib.Core.Path.{◌≡◌}
 use mathlib.Core.Bool.{true, false}
 use mathlib.Core.List.{List, [], ◌∷◌, ◌++◌}
@@ -636,7 +635,7 @@ other_event_changes_nothing = away_changes_nothing
 pub left_out_changes_nothing : (c : PortCall) (out : List ℕ) (j : Joint) → is_message c ≡ false → is_unheard c j ≡ true → kept_by_of c out (kept_in_of j) ≡ kept_in_of j
 left_out_changes_nothing = unheard_changes_nothing
 
-pub arrival_is_the_ports : (modes_of : Side → ℕ → List ℕ) (side : Side) (j : Joint) (bytes : List ℕ) → on_way (far_end side j).fate ≡ some bytes →
+pub arrival_is_the_ports : (modes_of : Side → ℕ → List ℕ) (side : Side) (j : Joint) (bytes : List ℕ) → on_way (far_end side j).fate ≡ Some bytes →
     (joint_step modes_of (joint_arrive side) j).port ≡ (effect_in (port_message side bytes) [] (kept_in_of j)).step.port
 arrival_is_the_ports = arrival_is_a_message
 

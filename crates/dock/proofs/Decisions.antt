@@ -93,8 +93,8 @@ module _ (d : Dock) (o : Outcome) where
     message_request k c = by_head ∙ rw (eq-eqb _ _ k, ne_eqb _ _ c)
 
 -- policy's answer
-same_self : (r : Request) → same_request r r ≡ true
-same_self r = grind arith
+pub same_itself : (r : Request) → same_request r r ≡ true
+same_itself r = grind arith
 
 not_same : (a r : Request) → (a ≡ r → ⊥) → same_request a r ≡ false
 not_same a r k = grind arith
@@ -180,7 +180,7 @@ module _ (d : Dock) (r : Request) where
       unfolding decide_policy_answer
       answer_policy e p ep =
           ap (λ (x : Standing). decide_policy_answer d x policy r objects) e ∙
-          rw (same_self r) (ap (λ (x : Policy). decide_policy d x r objects) ep)
+          rw (same_itself r) (ap (λ (x : Policy). decide_policy d x r objects) ep)
 
       pub answer_other : (s ≡ Asking r → ⊥) → decide_policy_answer d s policy r objects ≡ refuses 9
       unfolding decide_policy_answer

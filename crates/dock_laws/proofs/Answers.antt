@@ -18,7 +18,8 @@ use Rattle.dock.specs.declared.Standing.{Standing}
 use Rattle.dock.specs.declared.Standing.TheVariants.{Ready, Asking, Sending}
 use Rattle.dock_laws.specs.Given.{HasToSend, TooShort, GivenToPolicyAnswer, not_waiting, brings_wrong, wrong_shape, no_room_for_answer}
 use Rattle.dock_laws.proofs.Fates.{Fate, wrong, right, policy_fate, wrong_refused}
-use Rattle.dock_laws.proofs.Sent.{same_itself, to_policy, to_send_exactly}
+use Rattle.dock.proofs.Decisions.{same_itself}
+use Rattle.dock_laws.proofs.Sent.{to_policy, to_send_exactly}
 use Rattle.dock_laws.proofs.Sending.{sends_refusal, too_short, write_given}
 use Rattle.dock_laws.proofs.Loading.{clash}
 

@@ -7,7 +7,7 @@ use Prim.Native.Nat.{ℕ, ◌<◌, ◌≤◌}
 use native.Mathlib.Omega.{arith}
 use lib.Dec.{leb}
 use lib.ListN.{length, take}
-use borrow.Author.Tests.{eq-eqb, leb-true, leb-false}
+use borrow.Author.Tests.{leb-true, leb-false}
 use Rattle.messages.specs.Layout.{ack, nak, busy, Message}
 use Rattle.messages.specs.Requests.{same_request}
 use Rattle.messages.specs.declared.request.Request.{Request}
@@ -23,9 +23,6 @@ use Rattle.dock.proofs.Decisions.{identity_given, page_none, page_given, other_i
 use Rattle.dock_laws.specs.Given.{BringsWrong, not_1_to_6, brings_some, no_identity, AnswerIs, gives_identity, gives_page, gives_empty_list, gives_modes, gives_other, says_nak, says_busy, HasToSend}
 use Rattle.dock_laws.proofs.Fates.{gives, three_to_six, Fate, wrong, right, policy_fate, wrong_refused}
 use Rattle.dock_laws.proofs.Limits.{outside}
-
-pub same_itself : (r : Request) → same_request r r ≡ true
-same_itself r = rw (eq-eqb r.svid r.svid refl, eq-eqb r.command r.command refl, eq-eqb r.position r.position refl)
 
 some_listed : (l : List ℕ) → (l ≡ [] → ⊥) → 0 < length l
 some_listed [] h = absurd (h refl)
@@ -45,7 +42,7 @@ sent_by other (sends m next) = m
 module _ (d : Dock) (policy : Policy) (r : Request) (objects : List ℕ) where
   -- to the request that waits it is as policy says, and no other has an answer
   pub to_policy : d.standing ≡ Asking r → decide_policy_answer d d.standing policy r objects ≡ decide_policy d policy r objects
-  to_policy waits = answer_policy d r objects policy d.standing r waits (same_itself r) policy refl
+  to_policy waits = answer_policy d r objects policy d.standing waits policy refl
 
   module _ (m : Message) where
     waits_for : (next : Dock) → decide_policy_answer d d.standing policy r objects ≡ sends m next → d.standing ≡ Asking r

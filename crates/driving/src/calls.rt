@@ -1,16 +1,7 @@
 // The laptop end's calls off standard input.
-use events::{Call, Event, LONGEST_EVENT, Missing, body_length, read_event};
+use events::{Call, Event, LONGEST_EVENT, body_length, read_event};
 use streams::finish::Stop;
 use streams::input::fill;
-
-// How the input ends where no event is found in it.
-pub fn stop_at(missing: Missing) -> Stop {
-    match missing {
-        Missing::Unknown => Stop::Unknown,
-        Missing::Cut => Stop::Cut,
-        Missing::Nothing => Stop::Ended,
-    }
-}
 
 // The call of a kind, with its body from standard input. The kind stands first, and the body is read behind it.
 pub fn take_call(kind: u8) -> Result<Call, Stop> {

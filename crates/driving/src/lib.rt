@@ -4,5 +4,6 @@
 pub mod calls;
 pub mod digest;
 pub mod fields;
+pub mod lending;
 pub mod line;
 pub mod owning;

@@ -1,23 +1,25 @@
 -- Answers to Identity and SVIDs, branch by branch.
 use mathlib.Core.Path.{◌≡◌, refl, ap, sym, ◌∙◌}
-use mathlib.Core.Bool.{cond}
+use mathlib.Core.Bool.{Bool, true, false, cond}
 use mathlib.Core.List.{List}
 use Prim.Native.Nat.{ℕ, zero, suc, min, ◌+◌, ◌/◌, ◌%◌, ◌<◌, ◌≤◌}
-use lib.Dec.{eqb}
+use lib.Dec.{leb, eqb}
 use lib.ListN.{length, get_or, take}
 use lib.Seq.{sets}
 use native.Mathlib.Omega.{arith}
 use Rattle.std.proofs.lemmas.Bool.Decides.{nat_tests}
 use borrow.Author.Tests.{lt-ltb, le-leb, lt-leb}
-use Rattle.gathering.specs.Gathering.{Gathering, gathering, six_halves, unless_last, take_as, take_page}
+use Rattle.gathering.specs.Gathering.{hear_identity, Gathering, gathering, six_halves, unless_last, take_as, take_page, none_gathered, hear_svids}
 use Rattle.laptop.specs.Calls.{refused_by, accepted_with}
 use Rattle.laptop.specs.State.{gathered_list, ended, dropped, with_pages, counted, gathered_to}
-use Rattle.laptop.specs.declared.Candidate.TheVariants.{Open, Done}
+use Rattle.laptop.specs.declared.Candidate.TheVariants.{Absent, Open, Done}
 use Rattle.laptop.specs.declared.Laptop.{Laptop}
 use Rattle.laptop.specs.declared.Told.TheVariants.{Nothing}
 use Rattle.taking.specs.Taking.{verdict}
 use Rattle.taking.specs.declared.Verdict.{Verdict}
-use Rattle.taking.specs.declared.Verdict.TheVariants.{Repeat, More, Ends}
+use Rattle.taking.specs.declared.Verdict.TheVariants.{Bad, Repeat, More, Ends}
+use Rattle.laptop.specs.Step.{Step}
+use Rattle.messages.specs.declared.edition.Edition.{Edition}
 
 module _ (l : Laptop) where
   pub counted_more : l.pages < 255 → with_pages (l.pages + 1) l ≡ counted l
@@ -61,6 +63,44 @@ module _ (l : Laptop) (svids values list : List ℕ) (gathered : list ≡ gather
 -- the call and the list, of what was decided
 pub parts : (g h : Gathering) → g ≡ h → (h.step ≡ g.step) × (h.svids ≡ g.svids)
 parts g h e = (ap (λ (x : Gathering). x.step) (sym e), ap (λ (x : Gathering). x.svids) (sym e))
+
+-- what is refused leaves no candidate
+abbrev pub LeavesNone : Step → Type 0
+LeavesNone s = (s.refusal ≡ 0 → ⊥) → s.laptop.candidate ≡ Absent
+
+pub identity_leaves : (l : Laptop) (at : Edition) (kind n : ℕ) (objects svids identity : List ℕ) →
+    LeavesNone (hear_identity l at kind n objects svids identity).step
+unfolding hear_identity
+identity_leaves l at kind n objects svids identity = go (eqb kind 1) refl
+  where
+    go : (t : Bool) → eqb kind 1 ≡ t → LeavesNone (hear_identity l at kind n objects svids identity).step
+    go true e = rw e (λ r. absurd (r refl))
+    go false e = rw e (λ r. absurd (r refl))
+
+unless_leaves : (l : Laptop) (svids : List ℕ) (more : Gathering) → more.step.refusal ≡ 0 → LeavesNone (unless_last l svids more).step
+unfolding unless_last
+unless_leaves l svids more e = go (leb 200 l.pages) refl
+  where
+    go : (t : Bool) → leb 200 l.pages ≡ t → LeavesNone (unless_last l svids more).step
+    go true h = rw h (λ r. refl)
+    go false h = rw h (λ r. absurd (r e))
+
+taken_leaves : (l : Laptop) (svids values : List ℕ) (n : ℕ) (v : Verdict) → LeavesNone (take_as l svids values n v).step
+unfolding take_as
+taken_leaves l svids values n Bad = λ r. refl
+taken_leaves l svids values n Repeat = unless_leaves l svids _ refl
+taken_leaves l svids values n More = unless_leaves l svids _ refl
+taken_leaves l svids values n (Ends k) = λ r. absurd (r refl)
+
+pub svids_leave : (l : Laptop) (kind : ℕ) (values svids : List ℕ) → LeavesNone (hear_svids l kind values svids).step
+unfolding hear_svids take_page
+svids_leave l kind values svids = go (eqb kind 1) (eqb kind 3) (none_gathered l) refl refl refl
+  where
+    go : (t u v : Bool) → eqb kind 1 ≡ t → eqb kind 3 ≡ u → none_gathered l ≡ v → LeavesNone (hear_svids l kind values svids).step
+    go true u v a b n = rw a (taken_leaves (counted l) svids values _ _)
+    go false true v a b n = rw (a, b) (λ r. absurd (r refl))
+    go false false true a b n = rw (a, b, n) (λ r. absurd (r refl))
+    go false false false a b n = rw (a, b, n) (λ r. refl)
 
 -- six objects are twelve values
 pub value_is : (o : List ℕ) (place : ℕ) → place < 12 →

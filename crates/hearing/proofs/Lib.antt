@@ -1,4 +1,3 @@
 -- Laws on what becomes of a message, a file for each topic.
 pub mod Outcomes
 pub mod Parts
-pub mod Unawaited

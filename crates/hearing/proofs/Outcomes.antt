@@ -10,9 +10,8 @@ use Rattle.laws.specs.Padded.{padded}
 use Rattle.laws.proofs.Padded.{take_padded}
 use Rattle.messages.specs.Layout.{Message}
 use Rattle.messages.specs.Reading.{Outcome, accepted, refused, read_outcome, shown}
-use Rattle.messages.specs.declared.ReadAs.TheVariants.{Message as ReadAsMessage}
+use Rattle.messages.specs.Reading.{ReadAsMessage, Reading}
 use Rattle.messages.specs.declared.Head.{Head}
-use Rattle.messages.specs.declared.Reading.{Reading}
 use Rattle.messages.specs.declared.edition.Edition.{Edition}
 use Rattle.messages.proofs.Laws.{shown_message, read_count}
 use Rattle.hearing.specs.Hearing.{Result, only, hear_request, fits, hear_unawaited, hear_answer, hear, heard}

@@ -1,13 +1,13 @@
 -- An awaited answer, part by part: what it brings, and whether the candidate is published.
-use mathlib.Core.Path.{◌≡◌, refl, ap, sym, ◌∙◌}
+use mathlib.Core.Path.{◌≡◌, refl, ap, subst, sym, ◌∙◌}
 use mathlib.Core.Bool.{Bool, true, false, cond, ◌&&◌, false≢true}
 use mathlib.Core.List.{List, [], ◌∷◌, ◌++◌}
-use Prim.Native.Nat.{ℕ, ◌*◌, ◌<◌, ◌≤◌}
+use Prim.Native.Nat.{ℕ, ◌*◌, ◌≤◌}
 use native.Mathlib.Omega.{arith}
-use lib.Dec.{leb, eqb}
+use lib.Dec.{leb, ltb, eqb}
 use lib.ListN.{length, get_or, take, replicate, length-append}
 use lib.Seq.{length-take-le}
-use borrow.Author.Tests.{ne_eqb, eqb-false, leb-true, lt-leb, le-leb}
+use borrow.Author.Tests.{ne_eqb, eqb-false, leb-true}
 use Rattle.laws.specs.Padded.{padded}
 use Rattle.messages.specs.Layout.{Message}
 use Rattle.messages.specs.Requests.{request_of}
@@ -15,14 +15,19 @@ use Rattle.messages.specs.declared.Head.{Head}
 use Rattle.messages.specs.declared.edition.Edition.{Edition}
 use Rattle.messages.specs.declared.request.Request.{Request}
 use Rattle.pages.specs.Pages.{halves}
-use Rattle.gathering.specs.Gathering.{Opening, Gathering, hear_identity, six_halves, hear_svids}
-use Rattle.answers.specs.Answers.{Storing, Marking, hear_modes, hear_mode}
+use Rattle.gathering.specs.Gathering.{hear_identity, six_halves}
+use Rattle.answers.specs.Answers.{Marking, store_modes, hear_modes, hear_mode}
 use Rattle.publishing.specs.Publishing.{is_whole, copied, with_laptop}
-use Rattle.hearing.specs.Hearing.{only, with_opening, step_if_whole, list_if_whole, run_if_whole, publishing, hear_answer}
+use Rattle.hearing.specs.Hearing.{Result as Heard, only, with_opening, step_if_whole, list_if_whole, run_if_whole, publishing, hear_answer}
 use Rattle.hearing.specs.Parts.{brings_part, hear_part, completes}
 use Rattle.laptop.specs.State.{Memory, memory, published}
 use Rattle.laptop.specs.declared.Laptop.{Laptop}
-use Rattle.laptop.specs.Step.{Step}
+use Rattle.laptop.specs.Step.{Step, stepped}
+use Rattle.laptop.specs.declared.Refused.{Refused}
+use Rattle.messages.proofs.Numbers.{number_above}
+use Rattle.laptop.specs.declared.Candidate.TheVariants.{Absent}
+use Rattle.gathering.proofs.Listing.{LeavesNone, identity_leaves, svids_leave}
+use Rattle.std.specs.Prelude.{Err}
 
 abbrev pub message_of : Head → ℕ → List ℕ → Message
 message_of h count words = record { head = h; objects = take count words }
@@ -44,12 +49,6 @@ six_halves_lem (a ∷ b ∷ c ∷ d ∷ e ∷ f ∷ []) h = refl
 six_halves_lem (a ∷ b ∷ c ∷ d ∷ e ∷ f ∷ g ∷ o) h = absurd (omega arith)
 
 -- which command it is
-pub part_low : (command : ℕ) → command < 1 → false ≡ brings_part command
-part_low command h = rw (lt-leb _ _ h)
-
-pub part_high : (command : ℕ) → 1 ≤ command → leb command 3 ≡ brings_part command
-part_high command h = rw (le-leb _ _ h)
-
 part_known : (command : ℕ) → brings_part command ≡ true → (1 ≤ command) × (command ≤ 3)
 part_known command e = go (leb 1 command) (leb command 3) refl refl e
   where
@@ -61,25 +60,38 @@ part_known command e = go (leb 1 command) (leb command 3) refl refl e
 part_other : (command : ℕ) → brings_part command ≡ false → (k : ℕ) → brings_part k ≡ true → command ≡ k → ⊥
 part_other command e k part same = false≢true (sym e ∙ ap brings_part same ∙ part)
 
--- a part, whatever is held
-module _ (l : Laptop) (m : Memory) (at : Edition) (command kind count : ℕ) (words : List ℕ) (step : Step) where
-  pub part_opening : command ≡ 1 → (o : Opening) → o ≡ hear_identity l at kind count words m.svids m.identity → (svids identity : List ℕ) →
-      step ≡ o.step → svids ≡ o.svids → identity ≡ o.identity →
-      only (memory svids m.modes identity m.run m.held_svids m.held_modes m.held_identity m.held_run m.entered) step ≡
-      hear_part l m at command kind count words
-  part_opening e o heard svids identity es ev ei = rw (es, ev, ei, heard, e)
+-- a part that is refused leaves no candidate, and so none that is whole
+modes_leave : (l : Laptop) (kind : ℕ) (words modes run : List ℕ) → LeavesNone (hear_modes l kind words modes run).step
+unfolding hear_modes store_modes
+modes_leave l kind words modes run = go (eqb kind 3) (eqb kind 1) (ltb l.stored 72) refl refl refl
+  where
+    go : (t u v : Bool) → eqb kind 3 ≡ t → eqb kind 1 ≡ u → ltb l.stored 72 ≡ v → LeavesNone (hear_modes l kind words modes run).step
+    go true u v a b n = rw a (λ r. absurd (r refl))
+    go false true true a b n = rw (a, b, n) (λ r. absurd (r refl))
+    go false true false a b n = rw (a, b, n) (λ r. refl)
+    go false false v a b n = rw (a, b) (λ r. refl)
 
-  pub part_gathering : command ≡ 2 → (g : Gathering) → g ≡ hear_svids l kind (take (count * 2) (six_halves words)) m.svids → (svids : List ℕ) →
-      step ≡ g.step → svids ≡ g.svids →
-      only (memory svids m.modes m.identity m.run m.held_svids m.held_modes m.held_identity m.held_run m.entered) step ≡
-      hear_part l m at command kind count words
-  part_gathering e g heard svids es ev = rw (es, ev, heard, e)
+part_leaves : (l : Laptop) (m : Memory) (at : Edition) (command kind count : ℕ) (words : List ℕ) → LeavesNone (hear_part l m at command kind count words).step
+part_leaves l m at command kind count words = go (eqb command 1) (eqb command 2) refl refl
+  where
+    go : (t u : Bool) → eqb command 1 ≡ t → eqb command 2 ≡ u → LeavesNone (hear_part l m at command kind count words).step
+    go true u a b = rw a (identity_leaves l at kind count words m.svids m.identity)
+    go false true a b = rw (a, b) (svids_leave l kind (take (count * 2) (six_halves words)) m.svids)
+    go false false a b = rw (a, b) (modes_leave l kind (take count words) m.modes m.run)
 
-  pub part_storing : (command ≡ 1 → ⊥) → (command ≡ 2 → ⊥) → (f : Storing) → f ≡ hear_modes l kind (take count words) m.modes m.run →
-      (modes run : List ℕ) → step ≡ f.step → modes ≡ f.modes → run ≡ f.run →
-      only (memory m.svids modes m.identity run m.held_svids m.held_modes m.held_identity m.held_run m.entered) step ≡
-      hear_part l m at command kind count words
-  part_storing a b f heard modes run es em er = rw (es, em, er, heard, ne_eqb _ _ a, ne_eqb _ _ b)
+none_whole : (l : Laptop) → l.candidate ≡ Absent → is_whole l ≡ false
+unfolding is_whole
+none_whole l e = rw e
+
+pub part_refused : (l : Laptop) (m : Memory) (at : Edition) (command kind count : ℕ) (words : List ℕ) (r : Refused) (after : Memory) →
+    only after (stepped (Err r)) ≡ hear_part l m at command kind count words → completes kind r.laptop ≡ false
+part_refused l m at command kind count words r after e =
+    let leaves : LeavesNone (stepped (Err r)) = subst LeavesNone (ap (λ (x : Heard). x.step) (sym e)) (part_leaves l m at command kind count words) in
+    go (eqb kind 3) (none_whole r.laptop (leaves (λ z. omega (arith, number_above r.refusal, z))))
+  where
+    go : (t : Bool) → is_whole r.laptop ≡ false → cond t false (is_whole r.laptop) ≡ false
+    go true w = refl
+    go false w = w
 
 -- a candidate that is not whole is kept, and so is every one with BUSY
 kept : (kind : ℕ) (s : Step) (m : Memory) → completes kind s.laptop ≡ false → only m s ≡ publishing kind (only m s)

@@ -4,64 +4,60 @@ ghost use Rattle.laws.specs.Padded.{padded};
 ghost use Rattle.hearing.specs.Parts.{brings_part, GathersPart, HearsAnswer};
 ghost use Rattle.hearing.specs.Parts.{completes as Parts·completes};
 ghost use Rattle.laptop.specs.State.{memory_lent};
+ghost use Rattle.laptop.specs.Step.{stepped};
 
 use answers::{hear_mode, hear_modes};
 use gathering::{hear_identity, hear_svids};
-use laptop::{Laptop, Step};
-use messages::{BUSY, Edition, Head, IDENTITY, MODES, SVIDS, request_of};
+use laptop::{Accepted, Laptop, Refused};
+use messages::{BUSY, IDENTITY, MODES, Received, Request, SVIDS};
 use publishing::{is_whole, publish};
 
 // Identity, SVIDs and Modes bring a part of the candidate.
 fn brings_part(command: u8) -> bool
     ensures { result ≡ brings_part command }
 {
-    if command < IDENTITY {
-        return false;
-    }
-    command <= MODES
+    IDENTITY <= command && command <= MODES
 }
 
 // The part is gathered, whatever is held.
 fn gather(
     laptop: Laptop,
-    edition: Edition,
-    command: u8,
-    kind: u8,
-    count: u8,
-    objects: &[u32; 6],
+    received: &Received,
     svids: &mut [u16; 72],
     modes: &mut [u8; 72],
     identity: &mut [u32; 6],
     run: &mut [u32],
-) -> Step
-    ensures { GathersPart laptop edition command kind count objects.now svids modes identity run result }
+) -> Result<Accepted, Refused>
+    ensures { GathersPart laptop received.now.edition received.now.head.command received.now.head.kind received.now.count received.now.objects svids modes identity run (stepped result) }
 {
-    if command == IDENTITY {
-        return hear_identity(laptop, edition, kind, count, objects, svids, identity);
+    let Received {
+        edition,
+        head,
+        count,
+        objects,
+    } = received;
+    if head.command == IDENTITY {
+        return hear_identity(
+            laptop, *edition, head.kind, *count, objects, svids, identity,
+        );
     }
-    if command == SVIDS {
-        return hear_svids(laptop, kind, count, objects, svids);
+    if head.command == SVIDS {
+        return hear_svids(laptop, head.kind, *count, objects, svids);
     }
-    hear_modes(laptop, kind, count, objects, modes, run)
+    hear_modes(laptop, head.kind, *count, objects, modes, run)
 }
 
 // Does the answer make the candidate whole? BUSY never does.
 fn completes(kind: u8, laptop: Laptop) -> bool
     ensures { result ≡ Parts·completes kind laptop }
 {
-    if kind == BUSY {
-        return false;
-    }
-    is_whole(laptop)
+    kind != BUSY && is_whole(laptop)
 }
 
 // A candidate that its last part makes whole is published.
 pub(crate) fn hear_answer(
     laptop: Laptop,
-    edition: Edition,
-    head: Head,
-    count: u8,
-    objects: &[u32; 6],
+    received: &Received,
     svids: &mut [u16; 72],
     modes: &mut [u8; 72],
     identity: &mut [u32; 6],
@@ -71,31 +67,20 @@ pub(crate) fn hear_answer(
     held_identity: &mut [u32; 6],
     held_run: &mut [u32],
     entered: &mut [u8; 72],
-) -> Step
-    requires { (count ≤ 6) × (padded (take count objects.now) ≡ objects.now) }
-    ensures { HearsAnswer laptop edition head (take count objects.now) (memory_lent svids modes identity run held_svids held_modes held_identity held_run entered) result }
+) -> Result<Accepted, Refused>
+    requires { (received.now.count ≤ 6) × (padded (take received.now.count received.now.objects) ≡ received.now.objects) }
+    ensures { HearsAnswer laptop received.now.edition received.now.head (take received.now.count received.now.objects) (memory_lent svids modes identity run held_svids held_modes held_identity held_run entered) (stepped result) }
 {
+    let head = received.head;
     if !brings_part(head.command) {
-        return hear_mode(laptop, head.kind, request_of(head), held_svids, entered);
+        return hear_mode(laptop, head.kind, Request::from(head), held_svids, entered);
     }
-    let step = gather(
-        laptop,
-        edition,
-        head.command,
-        head.kind,
-        count,
-        objects,
-        svids,
-        modes,
-        identity,
-        run,
-    );
-    let after = step.laptop;
-    if !completes(head.kind, after) {
-        return step;
+    let accepted = gather(laptop, received, svids, modes, identity, run)?;
+    if !completes(head.kind, accepted.laptop) {
+        return Ok(accepted);
     }
-    publish(
-        step,
+    let laptop = publish(
+        accepted.laptop,
         svids,
         modes,
         identity,
@@ -104,5 +89,6 @@ pub(crate) fn hear_answer(
         held_modes,
         held_identity,
         held_run,
-    )
+    );
+    Ok(Accepted { laptop, ..accepted })
 }

@@ -3,10 +3,13 @@ ghost use Rattle.std.specs.Prelude.{◌≡◌};
 ghost use Rattle.hearing.specs.Hearing.{notice_of, hear_request, is_late_page, hear_unawaited, Hears};
 ghost use Rattle.hearing.specs.Hearing.{fits as Hearing·fits};
 ghost use Rattle.laptop.specs.State.{memory_lent};
+ghost use Rattle.laptop.specs.Step.{stepped};
 
 use crate::awaited::hear_answer;
-use laptop::{Candidate, Laptop, Notice, Step, Told, Wait, accepted, dropped, refused, short_runs};
-use messages::{ACK, ATTENTION, Head, REQ, ReadAs, SVIDS, request_of, same_request};
+use laptop::{
+    Accepted, Candidate, Laptop, Notice, Refused, Told, accept, dropped, refuse, short_runs,
+};
+use messages::{ACK, ATTENTION, Head, REQ, Refusal, Request, SVIDS};
 
 fn notice_of(head: Head, count: u8, object: u32) -> Notice
     ensures { result ≡ notice_of head count object }
@@ -20,51 +23,44 @@ fn notice_of(head: Head, count: u8, object: u32) -> Notice
 }
 
 // A request: Attention goes to policy at any time, any other is 6.
-fn hear_request(laptop: Laptop, head: Head, count: u8, object: u32) -> Step
-    ensures { result ≡ hear_request laptop head count object }
+#[tactic(auto, unfolding(crate::specs::Hearing::hear_request))]
+fn hear_request(laptop: Laptop, head: Head, count: u8, object: u32) -> Result<Accepted, Refused>
+    ensures { stepped result ≡ hear_request laptop head count object }
 {
     if head.command == ATTENTION {
-        return accepted(Told::Attention(notice_of(head, count, object)), laptop);
+        return accept(Told::Attention(notice_of(head, count, object)), laptop);
     }
-    refused(6, laptop)
+    refuse(Refusal::Unawaited, laptop)
 }
 
 // Does the answer fit the awaited SVID, command and position?
-fn fits(wait: Wait, head: Head) -> bool
+fn fits(wait: Option<Request>, head: Head) -> bool
     ensures { result ≡ Hearing·fits wait head }
 {
-    let Wait::Answer(request) = wait else {
-        return false;
-    };
-    same_request(request, request_of(head))
+    wait == Some(Request::from(head))
 }
 
 // A page that nobody awaits may have been confirmed.
+#[tactic(auto, unfolding(crate::specs::Hearing::is_late_page))]
 fn is_late_page(laptop: Laptop, head: Head) -> bool
     ensures { result ≡ is_late_page laptop head }
 {
-    let wait = laptop.wait;
-    let Wait::Nothing = wait else {
-        return false;
-    };
-    let candidate = laptop.candidate;
-    let Candidate::Open = candidate else {
-        return false;
-    };
-    if head.command != SVIDS {
-        return false;
-    }
-    head.kind == ACK
+    laptop.wait.is_none()
+        && laptop.candidate == Candidate::Open
+        && head.command == SVIDS
+        && head.kind == ACK
 }
 
 // An answer that is not awaited is 6; a late page drops an open list.
-fn hear_unawaited(laptop: Laptop, head: Head) -> Step
-    ensures { result ≡ hear_unawaited laptop head }
+#[tactic(auto, unfolding(crate::specs::Hearing::hear_unawaited))]
+fn hear_unawaited(laptop: Laptop, head: Head) -> Result<Accepted, Refused>
+    ensures { stepped result ≡ hear_unawaited laptop head }
 {
     if is_late_page(laptop, head) {
-        return refused(6, dropped(laptop));
+        refuse(Refusal::Unawaited, dropped(laptop))
+    } else {
+        refuse(Refusal::Unawaited, laptop)
     }
-    refused(6, laptop)
 }
 
 pub fn message(
@@ -79,30 +75,26 @@ pub fn message(
     held_identity: &mut [u32; 6],
     held_run: &mut [u32],
     entered: &mut [u8; 72],
-) -> Step
-    ensures { Hears laptop bytes.now (memory_lent svids modes identity run held_svids held_modes held_identity held_run entered) result }
+) -> Result<Accepted, Refused>
+    ensures { Hears laptop bytes.now (memory_lent svids modes identity run held_svids held_modes held_identity held_run entered) (stepped result) }
 {
     if short_runs(run, held_run) {
-        return refused(11, laptop);
+        return refuse(Refusal::TooShort, laptop);
     }
-    let reading = reading::read(bytes);
-    let outcome = reading.outcome;
-    let ReadAs::Message(edition, head, count) = outcome else {
-        return refused(reading::number(outcome), laptop);
+    let received = match reading::read(bytes) {
+        Ok(received) => received,
+        Err(refusal) => return refuse(refusal, laptop),
     };
+    let head = received.head;
     if head.kind == REQ {
-        return hear_request(laptop, head, count, reading.objects[0]);
+        return hear_request(laptop, head, received.count, received.objects[0]);
     }
-    let wait = laptop.wait;
-    if !fits(wait, head) {
+    if !fits(laptop.wait, head) {
         return hear_unawaited(laptop, head);
     }
     hear_answer(
         laptop,
-        edition,
-        head,
-        count,
-        &reading.objects,
+        &received,
         svids,
         modes,
         identity,

@@ -1,6 +1,6 @@
 // The events, and reading one from standard input.
 use driving::calls::take_call;
-use driving::owning::RUN;
+use driving::lending::RUN;
 use events::{Call, side_of, without_side};
 use port::Side;
 use streams::finish::Stop;

@@ -5,8 +5,9 @@ use driving::digest::of_words;
 use driving::fields::{
     add_awaited, add_candidate, add_held, add_outcome, add_part, add_request, add_side, begin_line,
 };
+use driving::lending::Memory;
 use driving::line::Line;
-use driving::owning::{Memory, Owner, other};
+use driving::owning::{Owner, other};
 use laptop::{Laptop, Notice, Told};
 use messages::Request;
 
@@ -84,7 +85,7 @@ pub fn print_event(stream: u64, number: u64, answer: &Answer, owner: &Owner) {
     add_step(&mut line, answer);
     add_awaited(&mut line, owner.port.wait);
     add_laptop(&mut line, owner.laptop(side));
-    add_runs(&mut line, owner.memory(side));
+    add_runs(&mut line, owner.lent(side));
     add_readings(&mut line, answer);
     add_laptop(&mut line, owner.laptop(other(side)));
     line.print_line();

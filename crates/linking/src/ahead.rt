@@ -1,26 +1,19 @@
 // A dock that has answered before the laptop begins.
 use crate::Event;
 use crate::far_end::FarEnd;
-use crate::link::{Link, REQUEST};
+use crate::link::{Link, written};
 use messages::{IDENTITY, OURS, PD_SID, REQ, Request, SVIDS, head_for};
 
-// At our edition.
-fn request_for(command: u8) -> [u8; REQUEST] {
-    let request = Request {
-        svid: PD_SID,
-        command,
-        position: 0,
-    };
-    let mut bytes = [0; REQUEST];
-    writing::write(OURS, head_for(request, REQ), &[], &mut bytes);
-    bytes
-}
-
 impl FarEnd {
-    // A request that is given and confirmed, without a laptop.
+    // A request at our edition that is given and confirmed, without a laptop.
     fn exchange(&mut self, command: u8) {
+        let request = Request {
+            svid: PD_SID,
+            command,
+            position: 0,
+        };
         self.link = Link {
-            request: Some(request_for(command)),
+            request: written(OURS, head_for(request, REQ)).ok(),
             ..Link::quiet()
         };
         self.take(Event::RequestReaches);

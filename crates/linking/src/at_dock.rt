@@ -26,8 +26,9 @@ impl FarEnd {
             Event::Sent => confirming::sent(self.dock),
             Event::Failed => confirming::failed(self.dock),
             _ => {
-                let request = lowered(self.link.request.unwrap_or_default(), self.highest);
-                receiving::message(self.dock, &request, &mut [])
+                let sent = self.link.request.unwrap_or_default();
+                let heard = lowered(sent, self.highest).unwrap_or(sent);
+                receiving::message(self.dock, &heard, &mut [])
             }
         };
         self.link.take(event);

@@ -1,11 +1,20 @@
 // The link: the request under way, and the answer to the last request that reached the dock.
+ghost use Rattle.std.specs.Prelude.{◌≡◌, take};
+
 use crate::Event;
-use streams::input::first_bytes;
+use messages::{Edition, Head, Refusal, first};
 
 // A request is one object, an answer at most seven.
 pub const REQUEST: usize = 4;
 
 pub const ANSWER: usize = 28;
+
+// The request of a head.
+pub(crate) fn written(edition: Edition, head: Head) -> Result<[u8; REQUEST], Refusal> {
+    let mut bytes = [0; REQUEST];
+    writing::write(edition, head, &[], &mut bytes)?;
+    Ok(bytes)
+}
 
 #[derive(Clone, Copy, PartialEq, Eq)]
 pub enum Place {
@@ -25,8 +34,8 @@ pub enum Heard {
 // The answer is the first `length` of the bytes, and counted once the laptop has counted it as a page.
 #[derive(Clone, Copy)]
 pub struct Answer {
-    bytes: [u8; ANSWER],
-    length: u8,
+    pub bytes: [u8; ANSWER],
+    pub length: u8,
     place: Place,
     heard: Heard,
     is_page_before_last: bool,
@@ -35,7 +44,7 @@ pub struct Answer {
 
 impl Answer {
     // It is under way, and nothing has been heard of it.
-    pub fn new(bytes: [u8; ANSWER], length: u8, is_page_before_last: bool) -> Answer {
+    pub(crate) fn new(bytes: [u8; ANSWER], length: u8, is_page_before_last: bool) -> Answer {
         Answer {
             bytes,
             length,
@@ -46,8 +55,10 @@ impl Answer {
         }
     }
 
-    pub fn bytes(&self) -> &[u8] {
-        first_bytes(&self.bytes, usize::from(self.length))
+    pub fn bytes(&self) -> &[u8]
+        ensures { result.now ≡ take self.now.length self.now.bytes }
+    {
+        first(&self.bytes, usize::from(self.length))
     }
 
     pub fn arrived(self, is_counted: bool) -> Answer {

@@ -1,4 +1,6 @@
 // Objects behind a header, at most as many as a message has room for.
+ghost use Rattle.std.specs.Prelude.{◌≡◌, replicate};
+
 use laptop::MODES_EACH;
 use messages::first;
 use streams::finish::Stop;
@@ -6,24 +8,27 @@ use streams::input::{fill_words, read_byte};
 
 #[derive(Clone, Copy)]
 pub struct Objects {
-    words: [u32; MODES_EACH],
-    count: usize,
+    pub words: [u32; MODES_EACH],
+    pub count: usize,
 }
 
 impl Objects {
     // So many times the word.
-    pub fn of(word: u32, count: usize) -> Objects {
+    pub fn of(word: u32, count: usize) -> Objects
+        ensures words { result.words ≡ replicate 6 word }
+        ensures count { result.count ≡ count }
+    {
         Objects {
             words: [word; MODES_EACH],
             count,
         }
     }
 
-    pub fn none() -> Objects {
+    pub(crate) fn none() -> Objects {
         Objects::of(0, 0)
     }
 
-    pub fn words(&self) -> &[u32] {
+    pub(crate) fn words(&self) -> &[u32] {
         first(&self.words, self.count)
     }
 }

@@ -4,9 +4,8 @@
 mod acting;
 
 use acting::{act, add_answer};
-use driving::calls::stop_at;
-use driving::owning::Owner;
-use events::{LONGEST_EVENT, read_event};
+use driving::lending::Lent;
+use events::{LONGEST_EVENT, Missing, read_event};
 use streams::block::Block;
 use streams::finish::{Finish, STDOUT, Stop, answer_each};
 use text::line::Line;
@@ -18,8 +17,18 @@ const BLOCK: usize = 16384;
 // space before each but the first, and the line end.
 const LONGEST_LINE: usize = 29;
 
+// How the input ends where no event is found in it.
+fn stop_at(missing: Missing) -> Stop {
+    match missing {
+        Missing::Unknown => Stop::Unknown,
+        Missing::Cut => Stop::Cut,
+        Missing::Nothing => Stop::Ended,
+    }
+}
+
 fn answer_all() -> Finish {
-    let mut owner = Owner::new(0);
+    let mut lent = Lent::new(0);
+    let mut port = lent.begin();
     let mut input = Block::<BLOCK>::new();
     let mut lines = Line::<BLOCK>::new();
     let finish = answer_each(0, |number| -> Result<(), Stop> {
@@ -27,9 +36,15 @@ fn answer_all() -> Finish {
         lines.make_room(LONGEST_LINE);
         let bytes = input.unread();
         let (event, length) = read_event(bytes).map_err(stop_at)?;
-        let answer = act(&mut owner, event, bytes.get(1..length).unwrap_or(bytes));
+        let answer = act(
+            port,
+            &mut lent,
+            event,
+            bytes.get(1..length).unwrap_or(bytes),
+        );
+        port = answer.port;
         input.take(length);
-        add_answer(&mut lines, number, answer, &owner);
+        add_answer(&mut lines, number, answer);
         Ok(())
     });
     lines.print();

@@ -1,9 +1,9 @@
 -- `message` meets its promise: the answer of reading is taken apart, and each case of it is a way out of the definition.
-use mathlib.Core.Path.{ap, sym, ◌∙◌}
-use Prim.Native.Nat.{ℕ}
-use Rattle.messages.specs.Reading.{read_outcome, read_number}
+use mathlib.Core.Path.{refl, sym, ◌∙◌}
+use Rattle.std.specs.Prelude.{Ok, Err}
+use Rattle.messages.specs.Reading.{read_outcome, as_shown}
+use Rattle.messages.specs.Refusals.{number_of}
 use Rattle.messages.proofs.Laws.{shown_refused}
-use Rattle.laptop.specs.Calls.{refused_by}
 use Rattle.laptop.specs.State.{memory}
 use Rattle.hearing.proofs.Outcomes.{count_few, words_padded, heard_short, heard_refused, heard_request, heard_unawaited, heard_answer, results}
 use Rattle.hearing.proofs.hearing.message.Goals as goal
@@ -13,43 +13,48 @@ returns-then-short_runs c =
     let a = c.args in
     let m = memory a.svids.now a.modes.now a.identity.now a.run.now a.held_svids.now a.held_modes.now a.held_identity.now a.held_run.now a.entered.now in
     let e = results _ _ (heard_short a.laptop m (read_outcome a.bytes.now) (sym c.short_runs.ensures ∙ c.if-short_runs.true)) in
-    (c.refused.ensures ∙ e.0, e.1)
+    (c.refuse.ensures ∙ e.0, e.1)
 
-pub returns-in_default : goal.returns-in_default
-returns-in_default c =
+pub returns-in-Err : goal.returns-in-Err
+returns-in-Err c =
     let a = c.args in
+    let refusal = c.in-Err.refusal in
     let m = memory a.svids.now a.modes.now a.identity.now a.run.now a.held_svids.now a.held_modes.now a.held_identity.now a.held_run.now a.entered.now in
     let long = sym c.short_runs.ensures ∙ c.if-short_runs.false in
-    let is = shown_refused (read_outcome a.bytes.now) c.read-reading.result _ c.read-reading.ensures c.in_default.is in
+    let is = shown_refused (read_outcome a.bytes.now) (as_shown (Err refusal)) (number_of refusal) c.in-Err.ensures refl in
     let e = results _ _ (heard_refused a.laptop m long (read_outcome a.bytes.now) _ is) in
-    (c.refused-in_default.ensures ∙ ap (λ (k : ℕ). refused_by k a.laptop) (c.number.ensures ∙ ap read_number c.in_default.is) ∙ e.0, e.1)
+    (c.refuse-in-Err.ensures ∙ e.0, e.1)
 
 pub returns-then-head-eq-REQ : goal.returns-then-head-eq-REQ
 returns-then-head-eq-REQ c =
     let a = c.args in
+    let read = as_shown (Ok c.in-Ok.received) in
     let m = memory a.svids.now a.modes.now a.identity.now a.run.now a.held_svids.now a.held_modes.now a.held_identity.now a.held_run.now a.entered.now in
     let long = sym c.short_runs.ensures ∙ c.if-short_runs.false in
-    let e = results _ _ (heard_request a.laptop m long a.bytes.now c.read-reading.result _ _ _ c.read-reading.ensures c.in-Message.is c.if-head-eq-REQ.true) in
+    let e = results _ _ (heard_request a.laptop m long a.bytes.now read _ _ _ c.in-Ok.ensures refl c.if-head-eq-REQ.true) in
     (c.hear_request.ensures ∙ e.0, e.1)
 
 pub returns-then-not-fits : goal.returns-then-not-fits
 returns-then-not-fits c =
     let a = c.args in
+    let read = as_shown (Ok c.in-Ok.received) in
     let m = memory a.svids.now a.modes.now a.identity.now a.run.now a.held_svids.now a.held_modes.now a.held_identity.now a.held_run.now a.entered.now in
     let long = sym c.short_runs.ensures ∙ c.if-short_runs.false in
     let other = (sym c.fits.ensures ∙ c.if-not-fits.true) in
-    let e = results _ _ (heard_unawaited a.laptop m long a.bytes.now c.read-reading.result _ _ _ c.read-reading.ensures c.in-Message.is c.if-head-eq-REQ.false other) in
+    let e = results _ _ (heard_unawaited a.laptop m long a.bytes.now read _ _ _ c.in-Ok.ensures refl c.if-head-eq-REQ.false other) in
     (c.hear_unawaited.ensures ∙ e.0, e.1)
 
 pub hear_answer-requires : goal.hear_answer-requires
 hear_answer-requires c =
     let a = c.args in
-    (count_few a.bytes.now c.read-reading.result _ _ _ c.read-reading.ensures c.in-Message.is, words_padded a.bytes.now c.read-reading.result _ _ _ c.read-reading.ensures c.in-Message.is)
+    let read = as_shown (Ok c.in-Ok.received) in
+    (count_few a.bytes.now read _ _ _ c.in-Ok.ensures refl, words_padded a.bytes.now read _ _ _ c.in-Ok.ensures refl)
 
 pub returns : goal.returns
 returns c =
     let a = c.args in
+    let read = as_shown (Ok c.in-Ok.received) in
     let m = memory a.svids.now a.modes.now a.identity.now a.run.now a.held_svids.now a.held_modes.now a.held_identity.now a.held_run.now a.entered.now in
     let long = sym c.short_runs.ensures ∙ c.if-short_runs.false in
     let awaited = (sym c.fits.ensures ∙ c.if-not-fits.false) in
-    results _ _ (heard_answer a.laptop m long a.bytes.now c.read-reading.result _ _ _ c.read-reading.ensures c.in-Message.is c.if-head-eq-REQ.false awaited ∙ sym c.hear_answer.ensures)
+    results _ _ (heard_answer a.laptop m long a.bytes.now read _ _ _ c.in-Ok.ensures refl c.if-head-eq-REQ.false awaited ∙ sym c.hear_answer.ensures)

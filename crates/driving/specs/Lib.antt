@@ -1,0 +1,2 @@
+-- What the programs share that drive the laptop end.
+pub mod Lending

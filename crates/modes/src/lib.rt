@@ -58,6 +58,7 @@ fn exit_check(list: &[u16], modes: &[u8], entered: &[u8], mode: Request) -> Resu
     }
 }
 
+// *Enter* and *exit* stay two calls, lent each array by itself, as the C interface has them; each has refusals of its own.
 pub fn enter(
     laptop: Laptop,
     svid: u16,

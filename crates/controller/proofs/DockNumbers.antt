@@ -1,17 +1,13 @@
 -- The dock's state as numbers: what the code makes is the definition, and numbers made of a state give it back.
 use mathlib.Core.Path.{◌≡◌, refl}
-use mathlib.Core.Bool.{Bool, true, false}
-use mathlib.Core.List.{List, [], ◌∷◌}
-use Prim.Native.Nat.{ℕ, ◌<◌}
+use mathlib.Core.Bool.{true, false}
+use Prim.Native.Nat.{◌<◌}
 use lib.ListN.{get_or}
-use Rattle.messages.specs.Editions.{edition_number}
-use Rattle.messages.specs.declared.edition.Edition.{Edition}
-use Rattle.messages.specs.declared.request.Request.{Request}
 use Rattle.dock.specs.declared.Dock.{Dock}
 use Rattle.dock.specs.declared.Standing.{Standing}
 use Rattle.dock.specs.declared.Standing.TheVariants.{Ready, Asking, Sending}
-use Rattle.controller.specs.Port.{low_byte, request_from, edition_from}
-use Rattle.controller.specs.Dock.{standing_from, dock_from, standing_numbers, numbers_with, dock_numbers}
+use Rattle.controller.specs.Port.{request_from}
+use Rattle.controller.specs.Dock.{standing_from, dock_from, standing_numbers, dock_numbers}
 use Rattle.controller.proofs.PortNumbers.{byte_again, edition_again}
 
 -- a state whose bytes are bytes, as that of every dock is

@@ -20,8 +20,8 @@ use Rattle.port.specs.declared.Side.{Side}
 use Rattle.port.specs.Step.{Step}
 use Rattle.controller.specs.CatalogueCall.{CatalogueCall}
 use Rattle.controller.specs.LaptopCalls.{LaptopStep, LaptopSendsNothing, LaptopSends, HeardOn, LaptopHears}
-use Rattle.controller.specs.Port.{side_number, port_from, port_numbers, numbers_after}
-use Rattle.controller.specs.Told.{told_numbers, handed_numbers}
+use Rattle.controller.specs.Port.{port_from, port_numbers, numbers_after}
+use Rattle.controller.specs.Told.{handed_numbers}
 use Rattle.laws.specs.Lent.{Lent, lent, left, accepted}
 use Rattle.controller.proofs.Accepting.{accepted_written, accepted_kept}
 

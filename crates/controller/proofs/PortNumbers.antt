@@ -4,7 +4,7 @@ use mathlib.Core.Bool.{Bool, true, false, cond}
 use mathlib.Core.List.{List, [], ◌∷◌, ◌++◌, append_assoc, append-nil}
 use Prim.Native.Nat.{ℕ, ◌+◌, ◌<◌}
 use native.Mathlib.Nat.{add-zero}
-use native.Mathlib.Numerals.{add-one, add-two, add-three, add-four, add_five, add_six, add_seven, add_eight}
+use native.Mathlib.Numerals.{add-one, add-two, add-three, add-four, add_five}
 use native.Mathlib.Omega.{arith}
 use lib.Dec.{eqb}
 use lib.ListN.{length, get_or, set, length-append, drop_of_length-le}
@@ -13,7 +13,6 @@ use Rattle.laws.proofs.Stores.{sets_append, sets_front}
 use Rattle.messages.specs.Editions.{edition_number}
 use Rattle.messages.specs.declared.edition.Edition.{Edition}
 use Rattle.messages.specs.declared.edition.Edition.TheVariants.{OneZero, TwoZero, TwoOne}
-use Rattle.messages.specs.declared.request.Request.{Request}
 use Rattle.taking.specs.Taking.{same_list}
 use Rattle.taking.proofs.Gathering.{same_self, same_lists}
 use Rattle.laptop.specs.declared.Candidate.{Candidate}
@@ -25,7 +24,7 @@ use Rattle.port.specs.declared.Port.{Port}
 use Rattle.port.specs.declared.Side.{Side}
 use Rattle.port.specs.declared.Side.TheVariants.{Partner, Cable}
 use Rattle.port.specs.Sides.{Wait}
-use Rattle.controller.specs.Port.{low_byte, request_from, size_from, wait_from, candidate_from, held_from, wait_in, own_from, port_from, side_from, side_number, edition_from, wait_numbers, candidate_number, held_numbers, own_numbers, port_numbers, numbers_after}
+use Rattle.controller.specs.Port.{low_byte, request_from, size_from, candidate_from, held_from, wait_in, own_from, port_from, side_from, side_number, edition_from, wait_numbers, candidate_number, held_numbers, own_numbers, port_numbers, numbers_after}
 
 pub wait_length : (w : Wait) → length (wait_numbers w) ≡ 4
 wait_length None = refl

@@ -43,11 +43,7 @@ pub fn dock_load(
 ) -> u8
     ensures { DockLoads new_identity.now new_svids.now result state identity svids length }
 {
-    let given = loading::load(
-        dock_from(state, identity, svids),
-        new_identity,
-        new_svids,
-    );
+    let given = loading::load(dock_from(state, identity, svids), new_identity, new_svids);
     let number = hand_over(given, state, length);
     if let Ok(accepted) = given {
         let objects = accepted.dock.identity;

@@ -136,7 +136,8 @@ impl<const N: usize> Line<N> {
         ensures { self.new ≡ with_text N self.old (hex_bytes bytes.now) }
     {
         for byte in bytes {
-            self.text(&[digit(byte / 16), digit(byte % 16)]);
+            self.byte(digit(byte / 16));
+            self.byte(digit(byte % 16));
         }
     }
 

@@ -76,6 +76,7 @@ pub(crate) fn write_port(port: Port, state: &mut [u16; 22])
 }
 
 // Do the numbers stand for the port?
+#[inline(always)]
 fn stands_for(state: &[u16; 22], port: Port) -> bool
     ensures { result ≡ same_list (port_numbers (port_from state.now)) (port_numbers port) }
 {

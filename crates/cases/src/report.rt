@@ -4,9 +4,8 @@ use crate::written::Message;
 use driving::fields::{add_held, add_outcome};
 use driving::line::Line;
 use driving::owning::Owner;
-use messages::Refusal;
+use messages::{Refusal, first};
 use port::Side;
-use streams::input::first_bytes;
 
 // 01's bound on the bytes of a catalogue.
 const CATALOGUE: usize = 2402;
@@ -49,5 +48,5 @@ pub fn add_catalogue(line: &mut Line, owner: &Owner) {
     add_held(line, laptop_of(owner).held);
     add_named(line, b", catalogue of", length);
     line.text(b" bytes ");
-    line.bytes(first_bytes(&buffer, usize::from(length)));
+    line.bytes(first(&buffer, usize::from(length)));
 }

@@ -1,6 +1,5 @@
 // A message as one end writes it for the other.
-use messages::{Edition, Head};
-use streams::input::first_bytes;
+use messages::{Edition, Head, first};
 
 // The bytes of the longest message, and of an object.
 pub const LONGEST: usize = 28;
@@ -24,7 +23,7 @@ impl Message {
     }
 
     pub fn bytes(&self) -> &[u8] {
-        first_bytes(&self.bytes, self.length)
+        first(&self.bytes, self.length)
     }
 
     // The message of a head that has no position, at 2.0, or nothing where it is refused.

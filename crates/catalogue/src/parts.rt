@@ -1,4 +1,5 @@
-// What a held catalogue stands in: its identity objects, its SVIDs, the number of modes of each, and the run with the words of the modes.
+// What a held catalogue stands in: its identity objects, its SVIDs, the number of modes of each, and the run with the
+// words of the modes.
 ghost use Rattle.std.specs.Prelude.{◌≤◌, length};
 ghost use Rattle.laptop.specs.Catalogue.{run_words};
 ghost use Rattle.pages.specs.Lists.{most_svids};

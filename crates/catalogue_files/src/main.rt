@@ -1,6 +1,7 @@
 #![tactic(auto)]
 
-// Answers the catalogue files on standard input: each is read back and mended, or one of its records is read, and gets one line on standard output.
+// Answers the catalogue files on standard input: each is read back and mended, or one of its records is read, and gets
+// one line on standard output.
 mod file;
 mod mend_file;
 mod read_file;
@@ -9,7 +10,7 @@ mod read_record;
 use streams::finish::{STDOUT, Stop, answer_each};
 use streams::input::read_byte;
 
-// The kinds of question.
+// The kinds of question: each is met in one place, so an enum of them would only say them again.
 const READ: u8 = 0x01;
 
 const RECORD: u8 = 0x02;

@@ -1,9 +1,10 @@
 // A file mended into a second buffer, of which the first bytes are lent.
 ghost use Rattle.std.specs.Prelude.{◌≤◌};
 
-use crate::file::{Line, UNWRITTEN, add_numbers};
+use crate::file::{Line, UNWRITTEN, add_fault, add_numbers};
 use driving::digest::of_bytes;
 use mending::{Kept, Mended, mend_catalogue};
+use messages::Refusal;
 
 // The bytes of the whole buffer.
 pub const BUFFER: usize = 2410;
@@ -12,21 +13,20 @@ fn add_kept(line: &mut Line, kept: Kept) {
     add_numbers(line, &[kept.svids, kept.modes, kept.length]);
 }
 
-fn add_mended(line: &mut Line, mended: Mended) {
+fn add_mended(line: &mut Line, mended: Result<Mended, Refusal>) {
     match mended {
-        Mended::Refused(refusal) => {
-            line.field(refusal);
-            line.text(b" - 0 0 0 0 0");
-        }
-        Mended::Sound(kept) => {
+        Ok(Mended::Sound(kept)) => {
             line.text(b" 0 sound 0 0");
             add_kept(line, kept);
         }
-        Mended::Partial(fault, kept) => {
+        Ok(Mended::Partial(fault, kept)) => {
             line.text(b" 0 partial");
-            line.field(fault.number);
-            add_numbers(line, &[fault.at]);
+            add_fault(line, fault);
             add_kept(line, kept);
+        }
+        Err(refusal) => {
+            line.field(u8::from(refusal));
+            line.text(b" - 0 0 0 0 0");
         }
     }
 }

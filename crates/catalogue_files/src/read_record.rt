@@ -1,9 +1,9 @@
 // The record at an offset of a file.
-use crate::file::{Line, MOST_BYTES, add_numbers, at_most, begin_line};
+use crate::file::{Line, MOST_BYTES, add_numbers, read_file};
 use messages::Refusal;
 use records::{Missing, Record, Whole, record_from};
 use streams::finish::Stop;
-use streams::input::{fill, read_half};
+use streams::input::read_half;
 
 fn add_record(line: &mut Line, record: Record) {
     match record {
@@ -39,9 +39,8 @@ fn add_found(line: &mut Line, found: Result<Whole, Missing>, offset: usize) {
 pub fn answer(number: u64) -> Result<(), Stop> {
     let offset = usize::from(read_half()?);
     let mut buffer = [0u8; MOST_BYTES];
-    let bytes = &mut buffer[..at_most(read_half()?, MOST_BYTES)];
-    fill(bytes)?;
-    let mut line = begin_line(number, b" record");
+    let bytes = read_file(&mut buffer)?;
+    let mut line = Line::numbered(number, b" record");
     add_found(&mut line, record_from(bytes, offset), offset);
     line.print_line();
     Ok(())

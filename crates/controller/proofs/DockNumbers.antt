@@ -1,38 +1,14 @@
 -- The dock's state as numbers: what the code makes is the definition, and numbers made of a state give it back.
 use mathlib.Core.Path.{◌≡◌, refl}
-use mathlib.Core.Bool.{Bool, true, false}
-use mathlib.Core.List.{List, [], ◌∷◌}
-use Prim.Native.Nat.{ℕ, ◌<◌}
+use mathlib.Core.Bool.{true, false}
+use Prim.Native.Nat.{◌<◌}
 use lib.ListN.{get_or}
-use Rattle.messages.specs.Editions.{edition_number}
-use Rattle.messages.specs.declared.edition.Edition.{Edition}
-use Rattle.messages.specs.declared.request.Request.{Request}
 use Rattle.dock.specs.declared.Dock.{Dock}
 use Rattle.dock.specs.declared.Standing.{Standing}
 use Rattle.dock.specs.declared.Standing.TheVariants.{Ready, Asking, Sending}
-use Rattle.controller.specs.Port.{low_byte, request_from, edition_from}
-use Rattle.controller.specs.Dock.{standing_from, dock_from, standing_numbers, numbers_with, dock_numbers}
+use Rattle.controller.specs.Port.{request_from}
+use Rattle.controller.specs.Dock.{standing_from, dock_from, standing_numbers, dock_numbers}
 use Rattle.controller.proofs.PortNumbers.{byte_again, edition_again}
-
-pub sending_page : (s : Standing) (is_page : Bool) → s ≡ Sending is_page → is_page ≡ true → (3 ∷ 0 ∷ 0 ∷ 0 ∷ []) ≡ standing_numbers s
-sending_page s is_page es ep = rw (es, ep)
-
-pub sending_other : (s : Standing) (is_page : Bool) → s ≡ Sending is_page → is_page ≡ false → (2 ∷ 0 ∷ 0 ∷ 0 ∷ []) ≡ standing_numbers s
-sending_other s is_page es ep = rw (es, ep)
-
-pub dock_is : (s identity svids : List ℕ) (request : Request) (extent count page : ℕ) (standing : Standing) (edition : Edition) →
-    extent ≡ low_byte (get_or s 0 0) → count ≡ low_byte (get_or s 1 0) → page ≡ low_byte (get_or s 2 0) →
-    standing ≡ standing_from (get_or s 3 0) request → request ≡ request_from (get_or s 4 0) (get_or s 5 0) (get_or s 6 0) →
-    edition ≡ edition_from (get_or s 7 0) →
-    ◌≡◌ {A = Dock} (record { identity = identity; extent = extent; svids = svids; count = count; page = page; edition = edition; standing = standing })
-    (dock_from s identity svids)
-unfolding dock_from
-dock_is s identity svids request extent count page standing edition eo ec ep es er ed = rw (eo, ec, ep, es, er, ed)
-
-pub numbers_are : (d : Dock) (standing : List ℕ) (edition : ℕ) → standing ≡ standing_numbers d.standing → edition ≡ edition_number d.edition →
-    numbers_with standing edition d ≡ dock_numbers d
-unfolding dock_numbers
-numbers_are d standing edition e f = rw (e, f)
 
 -- a state whose bytes are bytes, as that of every dock is
 abbrev pub StandingFits : Standing → Type 0

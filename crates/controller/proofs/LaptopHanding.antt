@@ -12,8 +12,7 @@ use Rattle.laptop.specs.State.{Memory, LentMemory}
 use Rattle.laptop.specs.declared.Laptop.{Laptop}
 use Rattle.laptop.specs.Step.{Step as LaptopAsStep}
 use Rattle.hearing.specs.Hearing.{heard}
-use Rattle.catalogue.specs.Bytes.{HeldCatalogue, held_catalogue, CatalogueWritten}
-use Rattle.catalogue.specs.Bytes.{Bytes}
+use Rattle.catalogue.specs.Bytes.{Bytes, HeldCatalogue, held_catalogue, CatalogueWritten}
 use Rattle.port.specs.Calls.{Owners, concerning}
 use Rattle.port.specs.Sides.{own_of, seen, stepped_on}
 use Rattle.port.specs.declared.Port.{Port}
@@ -21,8 +20,8 @@ use Rattle.port.specs.declared.Side.{Side}
 use Rattle.port.specs.Step.{Step}
 use Rattle.controller.specs.CatalogueCall.{CatalogueCall}
 use Rattle.controller.specs.LaptopCalls.{LaptopStep, LaptopSendsNothing, LaptopSends, HeardOn, LaptopHears}
-use Rattle.controller.specs.Port.{side_number, port_from, port_numbers, numbers_after}
-use Rattle.controller.specs.Told.{told_numbers, handed_numbers}
+use Rattle.controller.specs.Port.{port_from, port_numbers, numbers_after}
+use Rattle.controller.specs.Told.{handed_numbers}
 use Rattle.laws.specs.Lent.{Lent, lent, left, accepted}
 use Rattle.controller.proofs.Accepting.{accepted_written, accepted_kept}
 

@@ -28,7 +28,7 @@ use Rattle.controller.specs.CatalogueReading.{arrays_of, read_of, ReadCall, plac
 use Rattle.judging.specs.Judging.{judgement_of}
 use Rattle.rebuilding.proofs.Laws.{refused_leaves}
 use Rattle.mending.specs.Mending.{no_identity, short_buffer, mend_refusal}
-use Rattle.mending.specs.declared.Mended.{Mended}
+use Rattle.mending.specs.Mending.{Mended}
 use Rattle.mending.proofs.Laws.{number_given_lem}
 use Rattle.mending.proofs.Outcomes.{mending_refused}
 use Rattle.controller.specs.Dock.{dock_from, dock_numbers}

@@ -4,9 +4,9 @@ use mathlib.Core.List.{List}
 use Prim.Native.Nat.{ℕ, ◌≤◌}
 use Rattle.laws.specs.Lent.{Lent, lent, left}
 use Rattle.mending.specs.Mending.{mending_of}
-use Rattle.mending.specs.declared.Fault.{Fault}
-use Rattle.mending.specs.declared.Mended.{Mended}
-use Rattle.mending.specs.declared.Mended.TheVariants.{Refused, Sound, Partial}
+use Rattle.mending.specs.Mending.{Fault}
+use Rattle.mending.specs.Mending.{Mended}
+use Rattle.mending.specs.Mending.{Refused, Sound, Partial}
 use Rattle.mending.specs.declared.keeping.Kept.{Kept}
 use Rattle.mending.proofs.Small.{KeptSmall, Small, mending_small}
 use Rattle.controller.specs.CatalogueReading.{with_offset}

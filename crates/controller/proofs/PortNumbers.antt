@@ -4,7 +4,7 @@ use mathlib.Core.Bool.{Bool, true, false, cond}
 use mathlib.Core.List.{List, [], ◌∷◌, ◌++◌, append_assoc, append-nil}
 use Prim.Native.Nat.{ℕ, ◌+◌, ◌<◌}
 use native.Mathlib.Nat.{add-zero}
-use native.Mathlib.Numerals.{add-one, add-two, add-three, add-four, add_five, add_six, add_seven, add_eight}
+use native.Mathlib.Numerals.{add-one, add-two, add-three, add-four, add_five}
 use native.Mathlib.Omega.{arith}
 use lib.Dec.{eqb}
 use lib.ListN.{length, get_or, set, length-append, drop_of_length-le}
@@ -13,7 +13,6 @@ use Rattle.laws.proofs.Stores.{sets_append, sets_front}
 use Rattle.messages.specs.Editions.{edition_number}
 use Rattle.messages.specs.declared.edition.Edition.{Edition}
 use Rattle.messages.specs.declared.edition.Edition.TheVariants.{OneZero, TwoZero, TwoOne}
-use Rattle.messages.specs.declared.request.Request.{Request}
 use Rattle.taking.specs.Taking.{same_list}
 use Rattle.taking.proofs.Gathering.{same_self, same_lists}
 use Rattle.laptop.specs.declared.Candidate.{Candidate}
@@ -25,7 +24,7 @@ use Rattle.port.specs.declared.Port.{Port}
 use Rattle.port.specs.declared.Side.{Side}
 use Rattle.port.specs.declared.Side.TheVariants.{Partner, Cable}
 use Rattle.port.specs.Sides.{Wait}
-use Rattle.controller.specs.Port.{low_byte, request_from, size_from, wait_from, candidate_from, held_from, wait_in, own_from, port_from, side_from, side_number, edition_from, wait_numbers, candidate_number, held_numbers, own_numbers, port_numbers, numbers_after}
+use Rattle.controller.specs.Port.{low_byte, request_from, size_from, candidate_from, held_from, wait_in, own_from, port_from, side_from, side_number, edition_from, wait_numbers, candidate_number, held_numbers, own_numbers, port_numbers, numbers_after}
 
 pub wait_length : (w : Wait) → length (wait_numbers w) ≡ 4
 wait_length None = refl
@@ -45,10 +44,14 @@ pub own_stored : (s : List ℕ) (at : ℕ) (own : Own) {candidate edition : ℕ}
     whole ≡ sets (set (set (set (set (set s at candidate) (at + 1) own.gathered.extent) (at + 2) own.gathered.count) (at + 3) own.stored) (at + 4) own.pages) (at + 5) held →
     set whole (at + 8) edition ≡ sets s at (own_numbers own)
 unfolding own_numbers
-own_stored s at own {edition = edition} {held} e f g h =
-    let eight : at + 5 + length held ≡ at + 8 = rw f (omega (arith, held_length own.held)) in
-    rw h (ap (λ (k : ℕ). set (sets _ (at + 5) held) k edition) (sym eight) ∙ sym (sets_append _ (at + 5) held (edition ∷ []))) ∙
-    rw (e, f, g, add-one, add-two, add-three, add-four, add_five)
+own_stored s at own {candidate} {edition} {held} {whole} e f g h =
+    let five : List ℕ = set (set (set (set (set s at candidate) (at + 1) own.gathered.extent) (at + 2) own.gathered.count) (at + 3) own.stored) (at + 4) own.pages in
+    let eight : at + 5 + length held ≡ at + 8 = omega (arith, ap length f, held_length own.held) in
+    let behind : set whole (at + 8) edition ≡ sets five (at + 5) (held ++ (edition ∷ [])) =
+    ap (λ (w : List ℕ). set w (at + 8) edition) h ∙ ap (λ (k : ℕ). set (sets five (at + 5) held) k edition) (sym eight) ∙
+    sym (sets_append five (at + 5) held (edition ∷ [])) in
+    let all : sets five (at + 5) (held ++ (edition ∷ [])) ≡ sets s at (own_numbers own) = rw (e, f, g, add-one, add-two, add-three, add-four, add_five) in
+    behind ∙ all
 
 pub port_stored : (s : List ℕ) (p : Port) → length s ≡ 22 → {first second third : List ℕ} → first ≡ sets s 0 (wait_numbers p.wait) →
     second ≡ sets first 4 (own_numbers p.partner) → third ≡ sets second 13 (own_numbers p.cable) → third ≡ port_numbers p

@@ -1,8 +1,8 @@
 -- Two ports held against each other: their numbers are the same where each part is.
 use mathlib.Core.Path.{◌≡◌, refl, ap, sym, ◌∙◌}
-use mathlib.Core.Bool.{Bool, true, false, ◌&&◌, and-true, and_assoc}
+use mathlib.Core.Bool.{Bool, ◌&&◌, and-true, and_assoc}
 use mathlib.Core.List.{List, [], ◌∷◌, ◌++◌}
-use Prim.Native.Nat.{ℕ, ◌+◌}
+use Prim.Native.Nat.{ℕ}
 use native.Mathlib.Nat.{suc_inj, suc-ne-zero}
 use native.Mathlib.Omega.{arith}
 use denote.Enum.Bare.{sameb}

@@ -2,8 +2,8 @@
 use Rattle.std.specs.Prelude.{◌≡◌, ℕ, ◌≤◌, List, [], ◌∷◌}
 use Rattle.laws.specs.Lent.{Lent, lent, left}
 use Rattle.mending.specs.Mending.{mended_number, mended_offset, mending_of}
-use Rattle.mending.specs.declared.Mended.{Mended}
-use Rattle.mending.specs.declared.Mended.TheVariants.{Refused, Sound, Partial}
+use Rattle.mending.specs.Mending.{Mended}
+use Rattle.mending.specs.Mending.{Refused, Sound, Partial}
 use Rattle.mending.specs.declared.keeping.Kept.{Kept}
 use Rattle.controller.specs.CatalogueReading.{with_offset}
 

@@ -23,7 +23,7 @@ pub fn catalogue_write(
         (held_catalogue (own_of (side_from side) (port_from state.now)).held held_identity.now held_svids.now held_modes.now held_run.now)
         held_run.now result out length }
 {
-    let bytes = port::write_catalogue(
+    let written = port::write_catalogue(
         port_from(state),
         side_from(side),
         held_svids,
@@ -32,8 +32,11 @@ pub fn catalogue_write(
         held_run,
         out,
     );
-    if bytes.refusal == 0 {
-        *length = bytes.length;
+    match written {
+        Ok(bytes) => {
+            *length = bytes;
+            0
+        }
+        Err(refusal) => u8::from(refusal),
     }
-    bytes.refusal
 }

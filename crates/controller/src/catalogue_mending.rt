@@ -17,16 +17,15 @@ fn numbers_of(found: Kept) -> [u16; 3]
 pub fn catalogue_mend(bytes: &[u8], out: &mut [u8], kept: &mut [u16; 3]) -> u32
     ensures { MendCall bytes.now result out kept }
 {
-    let mended = mend_catalogue(bytes, out);
-    match mended {
-        Mended::Refused(number) => with_offset(number, 0),
-        Mended::Sound(found) => {
+    match mend_catalogue(bytes, out) {
+        Ok(Mended::Sound(found)) => {
             *kept = numbers_of(found);
             0
         }
-        Mended::Partial(fault, found) => {
+        Ok(Mended::Partial(fault, found)) => {
             *kept = numbers_of(found);
-            with_offset(fault.number, fault.at)
+            with_offset(u8::from(fault.refusal), fault.at)
         }
+        Err(refusal) => with_offset(u8::from(refusal), 0),
     }
 }

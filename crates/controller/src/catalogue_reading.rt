@@ -3,6 +3,7 @@ ghost use Rattle.std.specs.Prelude.{◌≡◌, ◌+◌, ◌*◌, ◌≤◌};
 ghost use Rattle.controller.specs.CatalogueReading.{with_offset, sizes_of, ReadCall, StretchCall};
 ghost use Rattle.laws.specs.Lent.{lent};
 ghost use Rattle.rebuilding.specs.Rebuilding.{Small};
+ghost use Rattle.rebuilding.specs.Shown.{rebuilt_as};
 
 use rebuilding::{Rebuilt, read_catalogue};
 use stretches::find_stretch;
@@ -12,12 +13,12 @@ pub(crate) fn with_offset(number: u8, at: usize) -> u32
     requires { at ≤ 2402 }
     ensures { result ≡ with_offset number at }
 {
-    (number as u32) + (at as u32) * 256
+    u32::from(number) + (at as u32) * 256
 }
 
 fn sizes_of(read: Rebuilt) -> [u16; 3]
-    requires { Small read }
-    ensures { result ≡ sizes_of read }
+    requires { Small (rebuilt_as (Ok read)) }
+    ensures { result ≡ sizes_of (rebuilt_as (Ok read)) }
 {
     [read.extent as u16, read.count as u16, read.modes as u16]
 }
@@ -33,22 +34,24 @@ pub fn catalogue_read(
 ) -> u32
     ensures { ReadCall bytes.now result svids modes identity run sizes }
 {
-    let read = read_catalogue(bytes, svids, modes, identity, run);
-    if read.refusal != 0 {
-        return with_offset(read.refusal, read.at);
+    match read_catalogue(bytes, svids, modes, identity, run) {
+        Ok(read) => {
+            *sizes = sizes_of(read);
+            with_offset(0, read.at)
+        }
+        Err(fault) => with_offset(u8::from(fault.refusal), fault.at),
     }
-    *sizes = sizes_of(read);
-    with_offset(0, read.at)
 }
 
 // Finds the mode records of an SVID; `length` is the number of their bytes.
 pub fn catalogue_stretch(bytes: &[u8], svid: u16, length: &mut u16) -> u32
     ensures { StretchCall bytes.now svid result length }
 {
-    let place = find_stretch(bytes, svid);
-    if place.refusal != 0 {
-        return with_offset(place.refusal, place.at);
+    match find_stretch(bytes, svid) {
+        Ok(place) => {
+            *length = place.length as u16;
+            with_offset(0, place.at)
+        }
+        Err(fault) => with_offset(u8::from(fault.refusal), fault.at),
     }
-    *length = place.length as u16;
-    with_offset(0, place.at)
 }

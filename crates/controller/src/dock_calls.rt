@@ -5,7 +5,7 @@ ghost use Rattle.dock.specs.Data.{fresh_dock};
 ghost use Rattle.dock.specs.Dock.{decide_message, decide_policy_answer, decide_sent, decide_failed};
 ghost use Rattle.controller.specs.Dock.{policy_from, dock_numbers};
 ghost use Rattle.controller.specs.DockCalls.{DockSendsNothing, DockSends, DockLoads};
-ghost use Rattle.laws.specs.Lent.{lent, left};
+ghost use Rattle.laws.specs.Lent.{lent};
 
 use crate::dock_state::{dock_from, dock_numbers, hand_over};
 use dock::Policy;
@@ -14,24 +14,21 @@ use messages::Request;
 fn policy_from(number: u8) -> Policy
     ensures { result ≡ policy_from number }
 {
-    if number == 1 {
-        return Policy::Nak;
+    match number {
+        1 => Policy::Nak,
+        2 => Policy::Busy,
+        _ => Policy::Give,
     }
-    if number == 2 {
-        return Policy::Busy;
-    }
-    Policy::Give
 }
 
 // A fresh dock.
 pub fn dock_fresh(state: &mut [u16; 8], identity: &mut [u32; 6], svids: &mut [u16; 72])
-    ensures { (left state ≡ dock_numbers fresh_dock) × (left identity ≡ fresh_dock.identity) × (left svids ≡ fresh_dock.svids) }
+    ensures { (state.new ≡ dock_numbers fresh_dock) × (identity.new ≡ fresh_dock.identity) × (svids.new ≡ fresh_dock.svids) }
 {
     let dock = dock::fresh();
     let no_objects = dock.identity;
     let no_svids = dock.svids;
-    let after = dock_numbers(dock);
-    *state = after;
+    *state = dock_numbers(dock);
     *identity = no_objects;
     *svids = no_svids;
 }
@@ -46,13 +43,11 @@ pub fn dock_load(
 ) -> u8
     ensures { DockLoads new_identity.now new_svids.now result state identity svids length }
 {
-    let before = *state;
-    let step = loading::load(dock_from(before, identity, svids), new_identity, new_svids);
-    let number = hand_over(step, state, length);
-    if number == 0 {
-        let dock = step.dock;
-        let objects = dock.identity;
-        let list = dock.svids;
+    let given = loading::load(dock_from(state, identity, svids), new_identity, new_svids);
+    let number = hand_over(given, state, length);
+    if let Ok(accepted) = given {
+        let objects = accepted.dock.identity;
+        let list = accepted.dock.svids;
         *identity = objects;
         *svids = list;
     }
@@ -69,9 +64,8 @@ pub fn dock_message(
 ) -> u8
     ensures { DockSends (λ d. decide_message d (read_outcome bytes.now)) result state identity.now svids.now out length }
 {
-    let before = *state;
-    let step = receiving::message(dock_from(before, identity, svids), bytes, out);
-    hand_over(step, state, length)
+    let given = receiving::message(dock_from(state, identity, svids), bytes, out);
+    hand_over(given, state, length)
 }
 
 // Policy's answer: 1 NAK, 2 BUSY, any other give.
@@ -91,20 +85,19 @@ pub fn dock_policy_answer(
         (λ d. decide_policy_answer d d.standing (policy_from policy) (record { svid = svid; command = command; position = position }) objects.now)
         result state identity.now svids.now out length }
 {
-    let before = *state;
     let request = Request {
         svid,
         command,
         position,
     };
-    let step = answering::policy_answer(
-        dock_from(before, identity, svids),
+    let given = answering::policy_answer(
+        dock_from(state, identity, svids),
         policy_from(policy),
         request,
         objects,
         out,
     );
-    hand_over(step, state, length)
+    hand_over(given, state, length)
 }
 
 pub fn dock_sent(
@@ -115,12 +108,8 @@ pub fn dock_sent(
 ) -> u8
     ensures { DockSendsNothing (λ d. decide_sent d d.standing) result state identity.now svids.now length }
 {
-    let before = *state;
-    hand_over(
-        confirming::sent(dock_from(before, identity, svids)),
-        state,
-        length,
-    )
+    let given = confirming::sent(dock_from(state, identity, svids));
+    hand_over(given, state, length)
 }
 
 pub fn dock_failed(
@@ -131,10 +120,6 @@ pub fn dock_failed(
 ) -> u8
     ensures { DockSendsNothing (λ d. decide_failed d d.standing) result state identity.now svids.now length }
 {
-    let before = *state;
-    hand_over(
-        confirming::failed(dock_from(before, identity, svids)),
-        state,
-        length,
-    )
+    let given = confirming::failed(dock_from(state, identity, svids));
+    hand_over(given, state, length)
 }

@@ -91,11 +91,8 @@ pub fn laptop_message(
         held_run,
         entered,
     );
-    hand_over(
-        stepped_on(side_from(side), port_from(state), heard),
-        state,
-        handed,
-    )
+    let given = stepped_on(side_from(side), port_from(state), heard);
+    hand_over(given, state, handed)
 }
 
 // How many modes of the SVID are entered on a side.

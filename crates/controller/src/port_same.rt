@@ -6,10 +6,10 @@ ghost use Rattle.controller.specs.Port.{wait_numbers, own_numbers};
 use messages::Request;
 use port::{Own, Side};
 
-pub(crate) fn same_wait(a: Option<(Side, Request)>, b: Option<(Side, Request)>) -> bool
-    ensures { result ≡ same_list (wait_numbers a) (wait_numbers b) }
+pub(crate) fn same_wait(one: Option<(Side, Request)>, other: Option<(Side, Request)>) -> bool
+    ensures { result ≡ same_list (wait_numbers one) (wait_numbers other) }
 {
-    a == b
+    one == other
 }
 
 pub(crate) fn same_own(a: Own, b: Own) -> bool

@@ -1,7 +1,6 @@
 -- The three demands, as theorems about the definitions that the promises of the code cite. Every public function promises that its result is the
 -- one that its definition gives, for all arguments: it has no `requires`, and it finishes (docs/PROMISES.md).
 use mathlib.Core.Logic.{◌⊎◌, ◌↔◌}
-use mathlib.Core.Option.{some}
 use mathlib.Core.Path.{◌≡◌}
 use mathlib.Core.Bool.{true, false}
 use mathlib.Core.List.{List, [], ◌∷◌, ◌++◌}
@@ -94,8 +93,8 @@ use Rattle.stretches.proofs.Laws.{not_listed_exactly}
 use Rattle.mending.specs.Beginning.{BeginningOf}
 use Rattle.mending.specs.Mending.{kept_of, kept_bytes, mend_refusal, report_of, mending_of}
 use Rattle.mending.specs.Words.{AtFront}
-use Rattle.mending.specs.declared.Mended.TheVariants.{Refused as MendedRefused}
-use Rattle.mending.specs.declared.Mended.TheVariants.{Sound as MendedSound}
+use Rattle.mending.specs.Mending.{Refused as MendedRefused}
+use Rattle.mending.specs.Mending.{Sound as MendedSound}
 use Rattle.mending.specs.declared.keeping.Kept.{Kept as MendingKept}
 use Rattle.mending.proofs.Cutting.{cut_begins, nothing_behind}
 use Rattle.mending.proofs.Front.{kept_before, kept_front}
@@ -636,7 +635,7 @@ other_event_changes_nothing = away_changes_nothing
 pub left_out_changes_nothing : (c : PortCall) (out : List ℕ) (j : Joint) → is_message c ≡ false → is_unheard c j ≡ true → kept_by_of c out (kept_in_of j) ≡ kept_in_of j
 left_out_changes_nothing = unheard_changes_nothing
 
-pub arrival_is_the_ports : (modes_of : Side → ℕ → List ℕ) (side : Side) (j : Joint) (bytes : List ℕ) → on_way (far_end side j).fate ≡ some bytes →
+pub arrival_is_the_ports : (modes_of : Side → ℕ → List ℕ) (side : Side) (j : Joint) (bytes : List ℕ) → on_way (far_end side j).fate ≡ Some bytes →
     (joint_step modes_of (joint_arrive side) j).port ≡ (effect_in (port_message side bytes) [] (kept_in_of j)).step.port
 arrival_is_the_ports = arrival_is_a_message
 

@@ -1,5 +1,5 @@
 -- What the dock keeps, by the promises of its calls.
-use mathlib.Core.Path.{◌≡◌, refl, sym, ◌∙◌}
+use mathlib.Core.Path.{◌≡◌, refl, ap, sym, ◌∙◌}
 use mathlib.Core.Bool.{Bool, true, false, cond}
 use mathlib.Core.List.{List}
 use Prim.Native.Nat.{ℕ, ◌+◌, ◌/◌, ◌^◌, ◌≤◌}
@@ -25,7 +25,11 @@ use Rattle.dock.specs.declared.Dock.{Dock}
 use Rattle.dock.specs.declared.Policy.{Policy}
 use Rattle.messages.specs.declared.edition.Edition.{Edition}
 use Rattle.messages.specs.declared.request.Request.{Request}
-use Rattle.dock.specs.Step.{Step}
+use Rattle.dock.specs.Step.{Step, stepped}
+use Rattle.dock.specs.declared.Accepted.{Accepted}
+use Rattle.std.specs.Prelude.{Result, Ok, Err}
+use Rattle.messages.specs.declared.refusal.Refusal.{Refusal}
+use Rattle.messages.proofs.Numbers.{numbered, number_once}
 use Rattle.dock.proofs.Kept.{load_sound, message_sound, answer_sound, confirmed_sound, kept}
 
 -- a dock that meets 01's limits meets them after each call
@@ -71,6 +75,16 @@ refusal_leaves d (sends m next) out h = go (eqb (write_refusal m (length out)) 0
 pub step_only : (d : Dock) (decision : Decision) (out : List ℕ) (s s' : Step) (after after' : List ℕ) →
     Stepped d decision out s after → Stepped d decision out s' after' → (s ≡ s') × (after ≡ after')
 step_only d decision out s s' after after' p p' = (p.step_is ∙ sym p'.step_is, p.buffer_is ∙ sym p'.buffer_is)
+
+-- and so is what the code gives back
+pub stepped_once : (d : Dock) (r r' : Result Accepted Refusal) → stepped d r ≡ stepped d r' → r ≡ r'
+stepped_once d (Ok a) (Ok b) e =
+    let size : a.length ≡ b.length = ap (λ (s : Step). s.length) e in
+    let next : a.dock ≡ b.dock = ap (λ (s : Step). s.dock) e in
+    λ i. Ok (record { length = size i; dock = next i })
+stepped_once d (Ok a) (Err q) e = absurd (numbered q (sym (ap (λ (s : Step). s.refusal) e)))
+stepped_once d (Err p) (Ok b) e = absurd (numbered p (ap (λ (s : Step). s.refusal) e))
+stepped_once d (Err p) (Err q) e = ap Err (number_once p q (ap (λ (s : Step). s.refusal) e))
 
 -- every page is a message that reading accepts, at the edition at which it is sent
 abbrev pub page_message : List ℕ → Message

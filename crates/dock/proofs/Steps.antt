@@ -10,7 +10,7 @@ use Rattle.messages.specs.Layout.{Message, message_length}
 use Rattle.std.specs.Prelude.{Ok, Err}
 use Rattle.messages.specs.Refusals.{number_of}
 use Rattle.messages.specs.declared.refusal.Refusal.{Refusal}
-use Rattle.messages.proofs.Refusals.{numbered}
+use Rattle.messages.proofs.Numbers.{numbered}
 use Rattle.messages.specs.Writing.{well_shaped, write_refusal, Written}
 use Rattle.messages.specs.declared.Head.{Head}
 use Rattle.messages.specs.declared.edition.Edition.{Edition}

@@ -39,7 +39,8 @@ pub enum Policy {
     Busy,
 }
 
-// What a call that is accepted gives back: how many bytes of the output buffer are to be sent, and the new state. A refusal leaves the state as it is.
+// What a call that is accepted gives back: how many bytes of the output buffer are to be sent, and the new state.
+// A refusal leaves the state as it is.
 #[derive(Clone, Copy)]
 pub struct Accepted {
     pub length: u8,

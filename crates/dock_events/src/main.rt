@@ -4,8 +4,7 @@
 mod event;
 mod report;
 
-use dock::Dock;
-use event::unchanged;
+use dock::{Accepted, Dock};
 use report::print_event;
 use streams::finish::{STDOUT, Stop, answer_each};
 use streams::input::{GREATEST, read_byte};
@@ -30,19 +29,21 @@ struct State {
 fn answer_room(number: u64, dock: Dock) -> Result<State, Stop> {
     let room = read_byte().ok_or(Stop::Cut)?;
     let output = [UNWRITTEN; GREATEST];
-    print_event(number, unchanged(dock), &output[..usize::from(room)]);
+    let unchanged = Accepted { length: 0, dock };
+    print_event(number, Ok(unchanged), dock, &output[..usize::from(room)]);
     Ok(State { dock, room })
 }
 
 fn answer_event(number: u64, kind: u8, state: State) -> Result<State, Stop> {
     let mut buffer = [UNWRITTEN; GREATEST];
     let output = &mut buffer[..usize::from(state.room)];
-    let step = event::take(kind, state.dock, output)?;
-    print_event(number, step, output);
-    Ok(State {
-        dock: step.dock,
-        ..state
-    })
+    let answer = event::take(kind, state.dock, output)?;
+    let dock = match answer {
+        Ok(accepted) => accepted.dock,
+        Err(_) => state.dock,
+    };
+    print_event(number, answer, dock, output);
+    Ok(State { dock, ..state })
 }
 
 fn answer_next(number: u64, state: State) -> Result<State, Stop> {

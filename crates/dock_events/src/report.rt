@@ -1,7 +1,7 @@
-// The line that an event gets: its number, the dock's step, the output buffer and where the dock
+// The line that an event gets: its number, the dock's answer, the output buffer and where the dock
 // stands then.
-use dock::{Dock, Standing, Step};
-use messages::edition_number;
+use crate::event::Answer;
+use dock::{Dock, Standing};
 use text::line::Line;
 
 // The longest line: a number of seven digits, a refusal and a length of three digits, 255 bytes of
@@ -9,13 +9,17 @@ use text::line::Line;
 // but the first, and the line end.
 const LONGEST: usize = 547;
 
-fn add_step(line: &mut Line<LONGEST>, step: Step, output: &[u8]) {
-    line.field(step.refusal);
-    line.field(step.length);
-    if output.is_empty() {
-        line.nothing();
-    } else {
-        line.spaced_bytes(output);
+// The refusal, or 0, and how many bytes are to be sent.
+fn add_answer(line: &mut Line<LONGEST>, answer: Answer) {
+    match answer {
+        Ok(accepted) => {
+            line.text(b" 0");
+            line.field(accepted.length);
+        }
+        Err(refusal) => {
+            line.field(u8::from(refusal));
+            line.text(b" 0");
+        }
     }
 }
 
@@ -27,13 +31,15 @@ fn add_dock(line: &mut Line<LONGEST>, dock: Dock) {
     }
     line.field(dock.page);
     line.field(dock.count);
-    line.edition(edition_number(dock.edition));
+    line.edition(u8::from(dock.edition));
 }
 
-pub fn print_event(number: u64, step: Step, output: &[u8]) {
+// The dock is as the event leaves it.
+pub fn print_event(number: u64, answer: Answer, dock: Dock, output: &[u8]) {
     let mut line = Line::new();
     line.decimal(number);
-    add_step(&mut line, step, output);
-    add_dock(&mut line, step.dock);
+    add_answer(&mut line, answer);
+    line.bytes_or_nothing(output);
+    add_dock(&mut line, dock);
     line.print_line();
 }

@@ -1,4 +1,5 @@
-// What a line says of its event and of a side's laptop. Each field but the first has a space before it, and is `-` where there is nothing to tell.
+// What a line says of its event and of a side's laptop. Each field but the first has a space before it, and is `-`
+// where there is nothing to tell.
 use crate::line::Line;
 use laptop::{Candidate, Laptop, Size};
 use messages::{Refusal, Request};

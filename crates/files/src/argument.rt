@@ -2,7 +2,8 @@
 use std::env::FillError;
 use std::rt::Env;
 
-// The longest path of the system, and the zero behind it. An argument that fills the room is longer than the name of any file.
+// The longest path of the system, and the zero behind it. An argument that fills the room is longer than the name of
+// any file.
 pub const ROOM: usize = 4096;
 
 // How many words the command line has, the program's own name among them.

@@ -5,8 +5,8 @@ use crate::path::path_of;
 use std::fs::File;
 use std::io::{Error, Read};
 
-// How much of a file is read: what lies behind these bytes cannot change what is found, nor what is mended, proved as `front_decides` in
-// crates/catalogue_laws/proofs/Front.antt and `front_mended` in crates/mending/proofs/Laws.antt.
+// How much of a file is read: what lies behind these bytes cannot change what is found, nor what is mended, proved as
+// `front_decides` in crates/catalogue_laws/proofs/Front.antt and `front_mended` in crates/mending/proofs/Laws.antt.
 pub const FRONT: usize = 2426;
 
 // The bytes that were read, fewer than there is room for only where the input ended.

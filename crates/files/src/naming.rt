@@ -59,7 +59,8 @@ fn print_reason(error: Error) {
     };
 }
 
-// Says on standard error why a call failed, behind the name of its file: the reason is the system's, but for a name that no path can be.
+// Says on standard error why a call failed, behind the name of its file: the reason is the system's, but for a name
+// that no path can be.
 pub fn say_reason(name: &[u8], error: Error) {
     let mut text: Line<NAME_ROOM> = Line::new();
     add_shown(&mut text, name);

@@ -1,4 +1,5 @@
 // Lines about a catalogue file.
+use messages::Refusal;
 use text::line::Line;
 
 // The longest word before two numbers of up to 20 digits, what stands between and behind these, and the line end.
@@ -13,13 +14,13 @@ fn numbered(words: &[u8], number: u64) -> Line<LONGEST> {
 }
 
 // A refusal that stands at no place in the file.
-pub fn print_refused(refusal: u8) {
-    numbered(b"refused ", u64::from(refusal)).print_line();
+pub fn print_refused(refusal: Refusal) {
+    numbered(b"refused ", u64::from(u8::from(refusal))).print_line();
 }
 
 // A file's first fault, behind what became of the file.
-pub fn print_fault(words: &[u8], number: u8, offset: usize) {
-    let mut line = numbered(words, u64::from(number));
+pub fn print_fault(words: &[u8], refusal: Refusal, offset: usize) {
+    let mut line = numbered(words, u64::from(u8::from(refusal)));
     line.text(b" at offset ");
     line.decimal(offset as u64);
     line.print_line();

@@ -29,7 +29,8 @@ fn opened(extent: u8, edition: Edition, laptop: Laptop) -> Laptop
     }
 }
 
-// An ACK opens an empty list, and the lower of its edition and ours is used from now on; NAK or BUSY leaves no candidate.
+// An ACK opens an empty list, and the lower of its edition and ours is used from now on; NAK or BUSY leaves no
+// candidate.
 #[tactic(auto, unfolding(crate::specs::Gathering::hear_identity))]
 pub fn hear_identity(
     laptop: Laptop,

@@ -60,8 +60,8 @@ impl Walk {
     }
 }
 
-// The walk from the front, and where it stands behind the end. The SVIDs that it passes, and the number of modes of each, are noted in the arrays that are
-// lent.
+// The walk from the front, and where it stands behind the end. The SVIDs that it passes, and the number of modes of
+// each, are noted in the arrays that are lent.
 pub fn judge(bytes: &[u8], svids: &mut [u16; 72], numbers: &mut [u8; 72]) -> Result<Walk, Stopped>
     ensures { FileJudged bytes.now (judged_as result) svids.new numbers.new }
 {

@@ -4,9 +4,9 @@ use driving::digest::of_bytes;
 use driving::owning::{Owner, sends};
 use events::Call;
 use laptop::Told;
-use messages::Refusal;
+use messages::{Refusal, first};
 use port::{Accepted, Refused, Side};
-use streams::input::{GREATEST, first_bytes};
+use streams::input::GREATEST;
 
 // How many bytes the output buffer of the owner's calls has at the start.
 const FIRST_OUTPUT: u8 = 32;
@@ -135,7 +135,7 @@ impl State {
             output: Some(of_bytes(output)),
             catalogue: written.ok().map(|length| (
                 length,
-                of_bytes(first_bytes(output, usize::from(length))),
+                of_bytes(first(output, usize::from(length))),
             )),
             ..Answer::quiet(side)
         }

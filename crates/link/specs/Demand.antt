@@ -1,6 +1,5 @@
 -- What demand 3 says, in the words of document 01.
-use Rattle.std.specs.Prelude.{◌⊎◌, ◌≡◌, ℕ, ◌+◌, ◌/◌, ◌^◌, ◌<◌, ◌≤◌, true, false, List, [], ◌∷◌, length, take, Some, None}
-use Rattle.std.proofs.Math.Option.{Option, none, some}
+use Rattle.std.specs.Prelude.{◌⊎◌, ◌≡◌, ℕ, ◌+◌, ◌/◌, ◌^◌, ◌<◌, ◌≤◌, true, false, List, [], ◌∷◌, length, take, Some, None, Option}
 use Rattle.laws.specs.Bounded.{Below}
 use Rattle.messages.specs.Editions.{ours}
 use Rattle.messages.specs.Layout.{Message, message_bytes}
@@ -112,14 +111,14 @@ module _ (modes_of : ℕ → List ℕ) (d : Dock) where
 
 -- how the laptop answers what arrives
 abbrev pub refusal_of : System → Option (List ℕ) → ℕ
-refusal_of s none = 0
-refusal_of s (some bytes) = (laptop_does (message bytes) s.laptop s.memory []).step.refusal
+refusal_of s None = 0
+refusal_of s (Some bytes) = (laptop_does (message bytes) s.laptop s.memory []).step.refusal
 
 -- the ends of a gathering that is not finished: drop, start over, a late page with nothing awaited, or two hundred pages
 pub data Ending (s : System) : Event → Type 0 where
   by_drop : (out : List ℕ) → Ending s (calls drop out)
   by_start_over : (out : List ℕ) → Ending s (calls start_over out)
-  by_late_page : (bytes : List ℕ) (e : Edition) (m : Message) → on_way s.fate ≡ some bytes → read_outcome bytes ≡ accepted e m → is_late_page s.laptop m.head ≡ true →
+  by_late_page : (bytes : List ℕ) (e : Edition) (m : Message) → on_way s.fate ≡ Some bytes → read_outcome bytes ≡ accepted e m → is_late_page s.laptop m.head ≡ true →
       Ending s arrive
   by_fourteen : refusal_of s (on_way s.fate) ≡ 14 → Ending s arrive
 

@@ -1,7 +1,6 @@
 -- The answers that a gathering needs, told from the dock's identity, list and modes, and those that have come in it. Of the laptop nothing is asked
 -- but what it awaits, whether a call sent something, and whether drop was accepted.
-use Rattle.std.specs.Prelude.{ℕ, zero, suc, ◌+◌, ◌/◌, Bool, false, cond, not, ◌&&◌, ◌||◌, List, [], ◌∷◌, ◌++◌, leb, ltb, eqb, length, take, Option}
-use Rattle.std.proofs.Math.Option.{Option, none, some}
+use Rattle.std.specs.Prelude.{ℕ, zero, suc, ◌+◌, ◌/◌, Bool, false, cond, not, ◌&&◌, ◌||◌, List, [], ◌∷◌, ◌++◌, leb, ltb, eqb, length, take, Option, Some, None}
 use Rattle.messages.specs.Layout.{ack, nak, busy, Message}
 use Rattle.messages.specs.Reading.{Outcome, accepted, refused, read_outcome}
 use Rattle.messages.specs.Requests.{svids_command, modes_command}
@@ -116,8 +115,8 @@ with_message w list (refused number) got = got
 with_message w list (accepted e m) got = with_taken w list m got
 
 abbrev pub with_arrival : Option Request → List ℕ → Option (List ℕ) → List Message → List Message
-with_arrival w list none got = got
-with_arrival w list (some bytes) got = with_message w list (read_outcome bytes) got
+with_arrival w list None got = got
+with_arrival w list (Some bytes) got = with_message w list (read_outcome bytes) got
 
 -- Identity goes out with a call: a message is sent, and Identity is awaited
 abbrev pub identity_out : Effect → Bool
@@ -136,20 +135,20 @@ begins_anew protocol_error d = identity_out d
 
 -- the bytes with which an event comes to the laptop
 abbrev pub on_way : Fate → Option (List ℕ)
-on_way gone = none
-on_way (coming bytes) = some bytes
-on_way (confirmed bytes) = some bytes
-on_way (came b) = none
+on_way gone = None
+on_way (coming bytes) = Some bytes
+on_way (confirmed bytes) = Some bytes
+on_way (came b) = None
 
 abbrev pub arriving : Event → Fate → Option (List ℕ)
-arriving (calls c out) fate = none
-arriving lose_request fate = none
-arriving (reach out) fate = none
-arriving (answer policy out) fate = none
-arriving lose_answer fate = none
+arriving (calls c out) fate = None
+arriving lose_request fate = None
+arriving (reach out) fate = None
+arriving (answer policy out) fate = None
+arriving lose_answer fate = None
 arriving arrive fate = on_way fate
-arriving sent fate = none
-arriving failed fate = none
+arriving sent fate = None
+arriving failed fate = None
 
 -- what has come in this gathering, after one event and after a run
 unfoldable pub received_by : Event → System → List Message → List Message
@@ -175,8 +174,8 @@ new_in w list (refused number) got = false
 new_in w list (accepted e m) got = is_new w list m got
 
 abbrev pub new_of : Option Request → List ℕ → Option (List ℕ) → List Message → Bool
-new_of w list none got = false
-new_of w list (some bytes) got = new_in w list (read_outcome bytes) got
+new_of w list None got = false
+new_of w list (Some bytes) got = new_in w list (read_outcome bytes) got
 
 abbrev pub brings_new : Event → System → List Message → Bool
 brings_new e s got = new_of s.laptop.wait (listed s.dock) (arriving e s.fate) got

@@ -7,8 +7,8 @@ use driving::line::Line;
 use driving::owning::{Owner, other};
 use laptop::Laptop;
 use linking::far_end::FarEnd;
+use messages::first;
 use port::Side;
-use streams::input::first_bytes;
 
 const LONGEST_CATALOGUE: usize = 2402;
 
@@ -34,7 +34,7 @@ fn add_laptop(line: &mut Line, laptop: Laptop) {
 fn add_catalogue(line: &mut Line, owner: &Owner, side: Side) {
     let mut buffer = [0; LONGEST_CATALOGUE];
     match owner.write_held(side, &mut buffer) {
-        Ok(length) => line.spaced_word(of_bytes(first_bytes(&buffer, usize::from(length)))),
+        Ok(length) => line.spaced_word(of_bytes(first(&buffer, usize::from(length)))),
         Err(_) => line.nothing(),
     }
 }

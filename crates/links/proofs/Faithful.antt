@@ -1,8 +1,8 @@
 -- The joint does what the port does: a call that it leaves out changes nothing there, and what arrives is the port's message.
+use Rattle.std.specs.Prelude.{Option, Some, None}
 use mathlib.Core.Path.{◌≡◌, refl, ap, sym, ◌∙◌}
 use mathlib.Core.Bool.{Bool, true, false, not, ◌||◌, false≢true}
 use mathlib.Core.List.{List, []}
-use mathlib.Core.Option.{Option, none, some}
 use Prim.Native.Nat.{ℕ}
 use Rattle.messages.specs.Reading.{read_outcome}
 use Rattle.laptop.specs.State.{Memory}
@@ -76,22 +76,22 @@ unheard_changes_nothing c out j plain e = go (is_idle c j.port.wait) refl (is_bl
 
 -- bytes on their way
 unfoldable bytes_on : Option (List ℕ) → List ℕ
-bytes_on none = []
-bytes_on (some bytes) = bytes
+bytes_on None = []
+bytes_on (Some bytes) = bytes
 
 unfoldable is_there : Option (List ℕ) → Bool
-is_there none = false
-is_there (some bytes) = true
+is_there None = false
+is_there (Some bytes) = true
 
 -- what arrives from a side's link is the port's message on that side
-pub arrival_is_a_message : (modes_of : Side → ℕ → List ℕ) (side : Side) (j : Joint) (bytes : List ℕ) → on_way (far_end side j).fate ≡ some bytes →
+pub arrival_is_a_message : (modes_of : Side → ℕ → List ℕ) (side : Side) (j : Joint) (bytes : List ℕ) → on_way (far_end side j).fate ≡ Some bytes →
     (step modes_of (arrive side) j).port ≡ (effect_in (message side bytes) [] (kept_in_of j)).step.port
 unfolding step link_step bytes_on is_there
 arrival_is_a_message modes_of side j bytes e =
     port_joined side _ _ j ∙ ap (λ (x : Laptop). put_back side x j.port) (heard_so (far_end side j).fate e) ∙
     ap (λ (m : Memory). put_back side (heard (seen side j.port) m (read_outcome bytes)).step.laptop j.port) (sym (memory_in side j))
   where
-    heard_so : (fate : Fate) → on_way fate ≡ some bytes →
+    heard_so : (fate : Fate) → on_way fate ≡ Some bytes →
         (arrives fate (system_seen side j)).laptop ≡ (heard (seen side j.port) (far_end side j).memory (read_outcome bytes)).step.laptop
     heard_so gone f = absurd (false≢true (ap is_there f))
     heard_so (coming b) f = ap (λ (x : List ℕ). (heard (seen side j.port) (far_end side j).memory (read_outcome x)).step.laptop) (ap bytes_on f)

@@ -4,7 +4,7 @@ use crate::saving::{Unsaved, save};
 use files::naming::NAME_ROOM;
 use files::verdict::print_refused;
 use mending::{Mended, mend_catalogue};
-use streams::input::first_bytes;
+use messages::first;
 use text::line::Line;
 
 // The longest sound file: six identity objects, and 72 SVIDs of six modes.
@@ -26,16 +26,16 @@ fn save_as(rt: &HostRuntime, out: &[u8], ending: &[u8], bytes: &[u8]) -> Result<
 pub fn mend_into(rt: &HostRuntime, bytes: &[u8], out: &[u8]) {
     let mut buffer = [0u8; LONGEST];
     match mend_catalogue(bytes, &mut buffer) {
-        Mended::Refused(refusal) => print_refused(refusal),
-        Mended::Sound(kept) => {
-            if save_as(rt, out, b"", first_bytes(&buffer, kept.length)).is_ok() {
+        Ok(Mended::Sound(kept)) => {
+            if save_as(rt, out, b"", first(&buffer, kept.length)).is_ok() {
                 print_sound();
             }
         }
-        Mended::Partial(fault, kept) => {
-            if save_as(rt, out, b".partial", first_bytes(&buffer, kept.length)).is_ok() {
+        Ok(Mended::Partial(fault, kept)) => {
+            if save_as(rt, out, b".partial", first(&buffer, kept.length)).is_ok() {
                 print_partial(fault, kept);
             }
         }
+        Err(refusal) => print_refused(refusal),
     }
 }

@@ -9,7 +9,8 @@ fn last_part(name: &[u8]) -> &[u8] {
     }
 }
 
-// No part, and one or two dots, stand for a directory, and an ending behind them would make them the name of a hidden file.
+// No part, and one or two dots, stand for a directory, and an ending behind them would make them the name of a hidden
+// file.
 fn is_directory(part: &[u8]) -> bool {
     matches!(part, [] | [b'.'] | [b'.', b'.'])
 }

@@ -1,7 +1,8 @@
 // The program's lines.
 use files::naming::{STDERR, print_named};
 use files::verdict::{print_counts, print_fault};
-use mending::{Fault, Kept};
+use judging::Fault;
+use mending::Kept;
 use streams::finish::STDOUT;
 
 pub fn print_usage() {
@@ -23,7 +24,7 @@ pub fn print_sound() {
 }
 
 pub fn print_partial(fault: Fault, kept: Kept) {
-    print_fault(b"fault ", fault.number, fault.at);
+    print_fault(b"fault ", fault.refusal, fault.at);
     print_counts(b"kept ", kept.svids, kept.modes);
     io::write_all(STDOUT, b"partial\n");
 }

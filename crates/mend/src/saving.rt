@@ -69,7 +69,8 @@ fn make(rt: &HostRuntime, name: &[u8], bytes: &[u8]) -> Result<(), Unsaved> {
     write_or_remove(rt, file, name, bytes)
 }
 
-// Gives the file its name. An empty file takes the name first, which fails where anything has it, so that only this one is replaced.
+// Gives the file its name. An empty file takes the name first, which fails where anything has it, so that only this one
+// is replaced.
 fn give_name(rt: &HostRuntime, unfinished: &[u8], name: &[u8]) -> Result<(), Unsaved> {
     make(rt, name, b"")?;
     let renamed = given(rename(rt, unfinished, name), name);

@@ -18,8 +18,8 @@ use Rattle.catalogue_laws.proofs.Front.{front_decides}
 use Rattle.catalogue_laws.proofs.Limits.{accepted_within}
 use Rattle.catalogue_laws.proofs.WriteRead.{write_read}
 use Rattle.mending.specs.Mending.{no_identity, short_buffer, kept_of, kept_bytes, mend_refusal, report_of, fault_of, outcome_of, mended_number, mended_as, mended_bytes, mending_of}
-use Rattle.mending.specs.declared.Mended.{Mended}
-use Rattle.mending.specs.declared.Mended.TheVariants.{Refused, Sound, Partial}
+use Rattle.mending.specs.Mending.{Mended}
+use Rattle.mending.specs.Mending.{Refused, Sound, Partial}
 use Rattle.mending.specs.declared.keeping.Kept.{Kept}
 use Rattle.mending.proofs.Outcomes.{refusal_none, refusal_short, refusal_whole, mending_refused, mending_whole}
 use Rattle.mending.proofs.Within.{nothing_left_out, mended_within, mended_accepted}

@@ -19,8 +19,8 @@ use Rattle.catalogue_laws.proofs.Bounds.{bounds}
 use Rattle.catalogue_laws.proofs.Judged.{number_is, walk_is}
 use Rattle.mending.specs.Keeping.{kept_by_of}
 use Rattle.mending.specs.Mending.{no_identity, short_buffer, kept_bytes, mend_refusal, report_of, outcome_of, mended_as, mended_bytes, mending_of}
-use Rattle.mending.specs.declared.Mended.{Mended}
-use Rattle.mending.specs.declared.Mended.TheVariants.{Refused, Sound, Partial}
+use Rattle.mending.specs.Mending.{Mended}
+use Rattle.mending.specs.Mending.{Refused, Sound, Partial}
 use Rattle.mending.specs.declared.keeping.Kept.{Kept}
 use Rattle.mending.proofs.Counting.{kept_is}
 use Rattle.mending.proofs.Front.{kept_size, kept_within, kept_front}
@@ -29,12 +29,6 @@ use Rattle.mending.proofs.Front.{kept_size, kept_within, kept_front}
 module _ (number at : ℕ) (kept : Kept) where
   abbrev told : Bool → Mended
   told b = cond b (Sound kept) (Partial (record { number = number; at = at }) kept)
-
-  pub told_sound : number ≡ 0 → Sound kept ≡ told (eqb number 0)
-  told_sound e = ap told (sym (eq-eqb number 0 e))
-
-  pub told_partial : (number ≡ 0 → ⊥) → Partial (record { number = number; at = at }) kept ≡ told (eqb number 0)
-  told_partial e = ap told (sym (ne_eqb number 0 e))
 
 -- by the refusal
 module _ (j : Judgement) (room : ℕ) where

@@ -14,8 +14,8 @@ use Rattle.judging.specs.Walking.{walk_of}
 use Rattle.catalogue_laws.proofs.Bounds.{bounds, place_most}
 use Rattle.mending.specs.Keeping.{kept_by_of}
 use Rattle.mending.specs.Mending.{mend_refusal, report_of, fault_of, outcome_of, mended_as, mending_of}
-use Rattle.mending.specs.declared.Mended.{Mended}
-use Rattle.mending.specs.declared.Mended.TheVariants.{Refused, Sound, Partial}
+use Rattle.mending.specs.Mending.{Mended}
+use Rattle.mending.specs.Mending.{Refused, Sound, Partial}
 use Rattle.mending.specs.declared.keeping.Kept.{Kept}
 use Rattle.mending.proofs.Counting.{kept_most, kept_is}
 

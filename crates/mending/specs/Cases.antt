@@ -2,8 +2,8 @@
 use Rattle.std.specs.Prelude.{ℕ, ◌+◌, ◌-◌, List, [], ◌∷◌, ◌++◌, length, take, replicate}
 use Rattle.judging.specs.Cases.{identity, svid, mode, end, modes, listed}
 use Rattle.mending.specs.Mending.{mending_of}
-use Rattle.mending.specs.declared.Mended.{Mended}
-use Rattle.mending.specs.declared.Mended.TheVariants.{Refused, Sound, Partial}
+use Rattle.mending.specs.Mending.{Mended}
+use Rattle.mending.specs.Mending.{Refused, Sound, Partial}
 
 pub record Case : Type 0 where
   pub bytes : List ℕ

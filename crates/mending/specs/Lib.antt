@@ -3,4 +3,5 @@ pub mod Beginning
 pub mod Cases
 pub mod Keeping
 pub mod Mending
+pub mod Shown
 pub mod Words

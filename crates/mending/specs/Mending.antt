@@ -5,10 +5,19 @@ use Rattle.laptop.specs.Catalogue.{Entry, Catalogue}
 use Rattle.catalogue.specs.Bytes.{catalogue_bytes, written_into}
 use Rattle.judging.specs.Judging.{Judgement, judgement_of}
 use Rattle.judging.specs.Walking.{all_modes}
-use Rattle.mending.specs.declared.Fault.{Fault}
-use Rattle.mending.specs.declared.Mended.{Mended}
-use Rattle.mending.specs.declared.Mended.TheVariants.{Refused, Sound, Partial}
 use Rattle.mending.specs.declared.keeping.Kept.{Kept}
+
+-- the first fault of a file: its number, 15 to 18, and the offset of its record
+pub record Fault : Type 0 where
+  pub number : ℕ
+  pub at : ℕ
+
+-- what is given back. A refusal writes nothing; a sound file comes out the same; any other that has its identity is
+-- mended, and what comes out is a part of what it was
+pub data Mended : Type 0 where
+  Refused : ℕ → Mended
+  Sound : Kept → Mended
+  Partial : Fault → Kept → Mended
 
 -- 19 no whole identity at the front; then 11, for the second buffer
 abbrev pub no_identity : ℕ

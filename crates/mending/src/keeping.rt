@@ -4,7 +4,7 @@ ghost use Rattle.std.proofs.lemmas.List.Edits.{sets};
 ghost use Rattle.catalogue.specs.Bytes.{end_kind};
 ghost use Rattle.mending.specs.Keeping.{svids_kept, kept_by_of};
 
-use judging::{Walk, is_bare};
+use judging::Walk;
 use records::{MODE_RECORD, OBJECT_BYTES, SVID_RECORD};
 
 const END_KIND: u8 = 0x00;
@@ -23,10 +23,11 @@ pub struct Kept {
 fn svids_kept(walk: Walk) -> usize
     ensures { result ≡ svids_kept walk }
 {
-    if is_bare(walk) {
-        return walk.count - 1;
+    if walk.is_bare() {
+        walk.count - 1
+    } else {
+        walk.count
     }
-    walk.count
 }
 
 pub(crate) fn kept_of(walk: Walk) -> Kept
@@ -48,10 +49,6 @@ pub(crate) fn put_kept(bytes: &[u8], number: usize, out: &mut [u8])
     requires { (number ≤ length bytes.now) × (number < length out.old) }
     ensures { out.new ≡ sets out.old 0 (take number bytes.now ++ end_kind ∷ []) }
 {
-    let mut i = 0;
-    while i < number {
-        out[i] = bytes[i];
-        i += 1;
-    }
+    out[..number].copy_from_slice(&bytes[..number]);
     out[number] = END_KIND;
 }

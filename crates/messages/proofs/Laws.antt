@@ -15,6 +15,10 @@ use Rattle.laws.proofs.Lines.{first_line_lem, first_at_lem}
 use Rattle.messages.specs.Layout.{head_of, Message, Representable, message_bytes, message_length, with_version, with_reserved_clear}
 use Rattle.messages.specs.Table.{row_of, counts_of, shape, allowed, first_head}
 use Rattle.messages.specs.Reading.{header_in, read_lines, read_refusal, message_in, Outcome, accepted, refused, read_outcome, shown}
+use Rattle.messages.specs.Reading.{as_shown}
+use Rattle.std.specs.Prelude.{Result, Ok, Err}
+use Rattle.messages.specs.declared.Received.{Received}
+use Rattle.messages.specs.declared.refusal.Refusal.{Refusal}
 use Rattle.messages.specs.Writing.{well_shaped, write_refusal, written, Written}
 use Rattle.messages.specs.Reading.{Refused}
 use Rattle.messages.specs.Reading.{ReadAsMessage}
@@ -22,6 +26,7 @@ use Rattle.messages.specs.declared.Head.{Head}
 use Rattle.messages.specs.Reading.{Reading}
 use Rattle.messages.specs.declared.edition.Edition.{Edition}
 use Rattle.messages.proofs.Refusals.{read_refused, outcome_refused}
+use Rattle.messages.proofs.Numbers.{number_once}
 use Rattle.messages.proofs.RoundTrip.{read_bytes, bytes_read, accepted_shape, accepted_fits, message_bytes_lem}
 use Rattle.messages.proofs.Rule.{shape_allowed, shape_least, shape_count, pair_has}
 use Rattle.messages.proofs.Stores.{length_message, write_whole}
@@ -110,8 +115,21 @@ pub write_fits : (at : Edition) (m : Message) → Below 256 (message_bytes at m)
 write_fits at m = message_bytes_lem at m
 
 -- a result that a promise allows is the only one
-pub read_only : (b : List ℕ) (r r' : Reading) → r ≡ shown (read_outcome b) → r' ≡ shown (read_outcome b) → r ≡ r'
-read_only b r r' e e' = e ∙ sym e'
+shown_once : (r r' : Result Received Refusal) → as_shown r ≡ as_shown r' → r ≡ r'
+shown_once (Ok a) (Ok b) e =
+    let same : ReadAsMessage a.edition a.head a.count ≡ ReadAsMessage b.edition b.head b.count = ap (λ (s : Reading). s.outcome) e in
+    let edition : a.edition ≡ b.edition = cc in
+    let head : a.head ≡ b.head = cc in
+    let count : a.count ≡ b.count = cc in
+    let objects : a.objects ≡ b.objects = ap (λ (s : Reading). s.objects) e in
+    λ i. Ok (record { edition = edition i; head = head i; count = count i; objects = objects i })
+shown_once (Ok a) (Err q) e = absurd (let o : ◌≡◌ {A = ℕ} 0 1 = cc (ap (λ (s : Reading). s.outcome) e) in omega arith)
+shown_once (Err p) (Ok b) e = absurd (let o : ◌≡◌ {A = ℕ} 0 1 = cc (ap (λ (s : Reading). s.outcome) e) in omega arith)
+shown_once (Err p) (Err q) e = ap Err (number_once p q (cc (ap (λ (s : Reading). s.outcome) e)))
+
+pub read_only : (b : List ℕ) (r r' : Result Received Refusal) →
+    as_shown r ≡ shown (read_outcome b) → as_shown r' ≡ shown (read_outcome b) → r ≡ r'
+read_only b r r' e e' = shown_once r r' (e ∙ sym e')
 
 pub write_only : (at : Edition) (m : Message) (out : List ℕ) (number number' : ℕ) (after after' : List ℕ) →
     Written at m out number after → Written at m out number' after' → (number ≡ number') × (after ≡ after')

@@ -4,7 +4,7 @@ use mathlib.Core.List.{List, [], ◌∷◌}
 use Prim.Native.Nat.{ℕ, ◌<◌}
 use native.Mathlib.Omega.{arith}
 use lib.ListN.{get_or}
-use Rattle.std.specs.Prelude.{Result, Ok, Err}
+use Rattle.std.specs.Prelude.{Result, Err}
 use Rattle.messages.specs.Refusals.{number_of, number_in}
 use Rattle.messages.specs.declared.refusal.Refusal.{Refusal}
 use Rattle.messages.specs.declared.refusal.Refusal.TheVariants.{WrongLength, Unstructured, WrongMajor, WrongShape, Unawaited, Waiting, BadAnswer, NotNow}
@@ -63,6 +63,9 @@ number_above CutRecord = omega arith
 number_above OutOfOrder = omega arith
 number_above BytesAfterEnd = omega arith
 number_above NoIdentity = omega arith
+
+pub numbered : (r : Refusal) → number_of r ≡ 0 → ⊥
+numbered r e = omega (arith, number_above r, e)
 
 -- 0 is acceptance, and nothing else is
 pub zero_accepted : {A : Type 0} (result : Result A Refusal) (r : Refusal) → number_in result ≡ 0 → result ≡ Err r → ⊥

@@ -19,6 +19,7 @@ use Rattle.messages.specs.declared.Head.{Head}
 use Rattle.messages.specs.declared.edition.Edition.{Edition}
 use Rattle.messages.specs.declared.refusal.Refusal.{Refusal}
 use Rattle.messages.specs.declared.refusal.Refusal.TheVariants.{WrongLength}
+use Rattle.messages.proofs.Numbers.{numbered}
 use Rattle.std.specs.Prelude.{Ok, Err}
 use Rattle.messages.proofs.Objects.{length_objects}
 
@@ -90,10 +91,6 @@ refusal_1 b e = simp e
 pub refusal_header : (b : List ℕ) → wrong_length (length b) ≡ false → read_refusal b ≡ first_line 2 (header_lines (header_in b) (length b / 4))
 unfolding read_refusal
 refusal_header b e = simp e
-
--- a refusal has a number
-pub numbered : (refusal : Refusal) → number_of refusal ≡ 0 → ⊥
-numbered refusal e = grind arith
 
 -- what the code returns on each way out
 module _ (b : List ℕ) where

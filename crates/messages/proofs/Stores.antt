@@ -4,9 +4,9 @@ use mathlib.Core.Bool.{Bool, true, false}
 use mathlib.Core.List.{List, [], ◌∷◌, ◌++◌, append_assoc, append-nil}
 use Prim.Native.Nat.{ℕ, ◌+◌, ◌*◌, ◌<◌, ◌≤◌}
 use native.Mathlib.Nat.{div-one}
-use native.Mathlib.Numerals.{add-one, add-two, add-three}
+use native.Mathlib.Numerals.{add-one}
 use native.Mathlib.Omega.{arith}
-use lib.ListN.{length, get_or, take, drop, set}
+use lib.ListN.{length, get_or, take, drop}
 use lib.Seq.{sets, length-sets, length-take-le, take-suc}
 use borrow.Author.Tests.{lt-ltb, le-ltb}
 use Rattle.laws.proofs.Stores.{sets_append, sets_front}
@@ -22,12 +22,6 @@ use Rattle.messages.proofs.Rule.{shape_count}
 pub object_bytes : (w : ℕ) → to_le_bytes w32 w ≡ bytes_of_object w
 unfolding bytes_of_object
 object_bytes w = rw div-one
-
-pub store_object : (out : List ℕ) (at : ℕ) (bytes : List ℕ) (w : ℕ) → bytes ≡ bytes_of_object w →
-    set (set (set (set out at (get_or bytes 0 0)) (at + 1) (get_or bytes 1 0)) (at + 2) (get_or bytes 2 0)) (at + 3) (get_or bytes 3 0)
-    ≡ sets out at (bytes_of_object w)
-unfolding bytes_of_object
-store_object out at bytes w e = rw (e, add-one, add-two, add-three)
 
 bytes_append : (vs ws : List ℕ) → bytes_of (vs ++ ws) ≡ bytes_of vs ++ bytes_of ws
 unfolding bytes_of

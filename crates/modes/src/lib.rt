@@ -30,19 +30,13 @@ fn has_mode(modes: &[u8], place: usize, position: u8) -> bool
 
 // What *enter* is refused for: the held catalogue lacks the mode, or that is entered.
 #[tactic(auto, unfolding(owner::specs::Owner::enter_refusal))]
-fn enter_check(
-    list: &[u16],
-    modes: &[u8],
-    entered: &[u8],
-    svid: u16,
-    position: u8,
-) -> Result<(), Refusal>
-    ensures { number_in result ≡ enter_refusal list.now modes.now entered.now svid position }
+fn enter_check(list: &[u16], modes: &[u8], entered: &[u8], mode: Request) -> Result<(), Refusal>
+    ensures { number_in result ≡ enter_refusal list.now modes.now entered.now mode.svid mode.position }
 {
-    let place = place_of(svid, list);
-    if list.len() <= place || !has_mode(modes, place, position) {
+    let place = place_of(mode.svid, list);
+    if list.len() <= place || !has_mode(modes, place, mode.position) {
         Err(Refusal::NotHeld)
-    } else if is_entered(entered, place, position) {
+    } else if is_entered(entered, place, mode.position) {
         Err(Refusal::Blocked)
     } else {
         Ok(())
@@ -51,25 +45,20 @@ fn enter_check(
 
 // What *exit* is refused for: the SVID is not held, or the position is neither 7 nor one of its modes; or it is not entered.
 #[tactic(auto, unfolding(owner::specs::Owner::exit_refusal))]
-fn exit_check(
-    list: &[u16],
-    modes: &[u8],
-    entered: &[u8],
-    svid: u16,
-    position: u8,
-) -> Result<(), Refusal>
-    ensures { number_in result ≡ exit_refusal list.now modes.now entered.now svid position }
+fn exit_check(list: &[u16], modes: &[u8], entered: &[u8], mode: Request) -> Result<(), Refusal>
+    ensures { number_in result ≡ exit_refusal list.now modes.now entered.now mode.svid mode.position }
 {
-    let place = place_of(svid, list);
-    if list.len() <= place || position != 7 && !has_mode(modes, place, position) {
+    let place = place_of(mode.svid, list);
+    if list.len() <= place || mode.position != 7 && !has_mode(modes, place, mode.position) {
         Err(Refusal::NotHeld)
-    } else if is_entered(entered, place, position) {
+    } else if is_entered(entered, place, mode.position) {
         Ok(())
     } else {
         Err(Refusal::Blocked)
     }
 }
 
+// *Enter* and *exit* stay two calls, lent each array by itself, as the C interface has them; each has refusals of its own.
 pub fn enter(
     laptop: Laptop,
     svid: u16,
@@ -88,19 +77,13 @@ pub fn enter(
         return refuse(Refusal::Blocked, laptop);
     }
     let list = held_list(laptop.held, held_svids);
-    enter_check(list, held_modes, entered, svid, position).map_err(|refusal| Refused {
-        refusal,
-        laptop,
-    })?;
-    ask(
-        laptop,
-        Request {
-            svid,
-            command: ENTER,
-            position,
-        },
-        out,
-    )
+    let mode = Request {
+        svid,
+        command: ENTER,
+        position,
+    };
+    enter_check(list, held_modes, entered, mode).map_err(|refusal| Refused { refusal, laptop })?;
+    ask(laptop, mode, out)
 }
 
 pub fn exit(
@@ -118,17 +101,11 @@ pub fn exit(
 {
     owner_check(laptop, run, held_run).map_err(|refusal| Refused { refusal, laptop })?;
     let list = held_list(laptop.held, held_svids);
-    exit_check(list, held_modes, entered, svid, position).map_err(|refusal| Refused {
-        refusal,
-        laptop,
-    })?;
-    ask(
-        laptop,
-        Request {
-            svid,
-            command: EXIT,
-            position,
-        },
-        out,
-    )
+    let mode = Request {
+        svid,
+        command: EXIT,
+        position,
+    };
+    exit_check(list, held_modes, entered, mode).map_err(|refusal| Refused { refusal, laptop })?;
+    ask(laptop, mode, out)
 }

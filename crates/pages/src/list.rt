@@ -2,8 +2,8 @@
 ghost use Rattle.std.specs.Prelude.{◌≡◌, take};
 ghost use Rattle.pages.specs.Lists.{is_in, sound_list};
 
-// Does the list have the SVID? Each element is looked at, with no way out before the end: the compiler then compares several at a time, as it does
-// not in a fold where the call is inlined.
+// Does the list have the SVID? Each element is looked at, with no way out before the end: the compiler then compares
+// several at a time, as it does not in a fold where the call is inlined.
 pub fn is_in(svid: u16, list: &[u16]) -> bool
     ensures { result ≡ is_in svid list.now }
 {

@@ -1,26 +1,23 @@
 -- Each call for a side, from what its parts ensure.
 use mathlib.Core.Path.{◌≡◌, ap, sym, ◌∙◌}
-use mathlib.Core.Bool.{true, false}
 use mathlib.Core.List.{List}
 use Prim.Native.Nat.{ℕ}
 use lib.ListN.{length}
 use borrow.Author.Tests.{eq-eqb, ne_eqb}
 use Rattle.messages.specs.Reading.{read_outcome}
-use Rattle.laptop.specs.Calls.{Decision, refuses, refused_by, step_of, buffer_of, Stepped, unless, short_runs}
+use Rattle.laptop.specs.Calls.{Decision, refuses, step_of, buffer_of, Stepped, unless}
 use Rattle.laptop.specs.declared.Laptop.{Laptop}
 use Rattle.laptop.specs.Step.{Step as LaptopAsStep}
-use Rattle.laptop.specs.State.{LentMemory, fresh_laptop}
-use Rattle.std.specs.Prelude.{Option, Ok, Err}
+use Rattle.laptop.specs.State.{LentMemory}
+use Rattle.std.specs.Prelude.{Ok, Err}
 use Rattle.messages.specs.Refusals.{number_of}
 use Rattle.messages.proofs.Refusals.{numbered}
 use Rattle.laptop.specs.declared.Told.TheVariants.{Nothing}
 use Rattle.port.specs.declared.Refused.{Refused}
 use Rattle.port.proofs.Seeing.{put_seen}
-use Rattle.laptop.specs.declared.Size.{Size}
 use Rattle.hearing.specs.Hearing.{heard}
-use Rattle.port.specs.Calls.{OwnersLaptop, HearsOn, is_waiting, owners_refusal, owners_decision, Owners, waiting_side, concerning}
-use Rattle.port.specs.Sides.{own_of, own_in, seen, put_back, stepped_on, fresh_port}
-use Rattle.port.specs.declared.Own.{Own}
+use Rattle.port.specs.Calls.{OwnersLaptop, HearsOn, owners_decision, Owners}
+use Rattle.port.specs.Sides.{seen, stepped_on}
 use Rattle.port.specs.declared.Port.{Port}
 use Rattle.port.specs.declared.Side.{Side}
 use Rattle.port.specs.Step.{Step, stepped}

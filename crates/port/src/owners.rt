@@ -50,7 +50,11 @@ pub fn next(
     ensures { Owners side port (λ l. decide_next l svids.now entered.now (length run.now) (length held_run.now)) run.now held_run.now out.old (stepped result) out.new }
 {
     let laptop = owners_laptop(port, side, run, held_run)?;
-    stepped_on(side, port, owner::next(laptop, svids, entered, run, held_run, out))
+    stepped_on(
+        side,
+        port,
+        owner::next(laptop, svids, entered, run, held_run, out),
+    )
 }
 
 // Drops the side's candidate and asks for the identity.
@@ -65,7 +69,11 @@ pub fn start_over(
     ensures { Owners side port (λ l. decide_start_over l entered.now (length run.now) (length held_run.now)) run.now held_run.now out.old (stepped result) out.new }
 {
     let laptop = owners_laptop(port, side, run, held_run)?;
-    stepped_on(side, port, owner::start_over(laptop, entered, run, held_run, out))
+    stepped_on(
+        side,
+        port,
+        owner::start_over(laptop, entered, run, held_run, out),
+    )
 }
 
 // Drops the side's candidate. Nothing is sent: the output buffer stays as it is.

@@ -31,7 +31,11 @@ fn wait_seen(side: Side, wait: Option<(Side, Request)>) -> Option<Request>
 }
 
 // What a side awaits afterwards; what the other awaits stays.
-fn wait_put(side: Side, after: Option<Request>, before: Option<(Side, Request)>) -> Option<(Side, Request)>
+fn wait_put(
+    side: Side,
+    after: Option<Request>,
+    before: Option<(Side, Request)>,
+) -> Option<(Side, Request)>
     ensures { result ≡ wait_put side after before }
 {
     if is_others(side, before) {
@@ -98,7 +102,8 @@ fn put_back(side: Side, laptop: Laptop, port: Port) -> Port
     }
 }
 
-// What a call of document 01 on a side gave, as the port's.
+// What a call of document 01 on a side gave, as the port's. A part of its callers: as a call of its own it costs them 238 bytes of stack.
+#[inline(always)]
 pub fn stepped_on(
     side: Side,
     port: Port,

@@ -25,7 +25,8 @@ use Rattle.port.specs.declared.Side.TheVariants.{Partner, Cable}
 use Rattle.port_laws.specs.Effects.{Call, message, next, start_over, drop, enter, exit, timer, protocol_error, one_sided, concerns, is_owners, Effect, decided_on, effect_of, on_side, effect_seen, Kept, memory_of, of_side, kept_on, effect_in, kept_by_of, answer_of, answer_on_side}
 use Rattle.port_laws.specs.Leaving.{is_others_call, is_blocked, is_left_out, laptop_by}
 use Rattle.port_laws.proofs.Seeing.{message_idle, effect_seen_lem, refused_nine, timer_nine, error_nine}
-use Rattle.port_laws.proofs.Sides.{other_unchanged, seen_put, seen_put_idle, put_seen, idle_seen, nothing_seen, same_side_lem, Waits, own_waits, other_waits, none_waits, waits}
+use Rattle.port.proofs.Seeing.{put_seen}
+use Rattle.port_laws.proofs.Sides.{other_unchanged, seen_put, seen_put_idle, idle_seen, nothing_seen, same_side_lem, Waits, own_waits, other_waits, none_waits, waits}
 
 -- a call on a side leaves the other's memory, and puts its own
 memory_own : (s : Side) (e : Effect) (k : Kept) → memory_of s (kept_on s e k) ≡ e.after

@@ -39,7 +39,8 @@ use Rattle.port.specs.declared.Side.{Side}
 use Rattle.port.specs.Step.{Step}
 use Rattle.port_laws.specs.Effects.{Call, message, next, start_over, drop, enter, exit, timer, protocol_error, effect_of}
 use Rattle.port_laws.specs.Refusing.{RefusedAs, is_page, left_by_unawaited}
-use Rattle.port_laws.proofs.Sides.{put_seen, idle_seen}
+use Rattle.port.proofs.Seeing.{put_seen}
+use Rattle.port_laws.proofs.Sides.{idle_seen}
 
 -- a refusal changes no lent byte: nothing that a call is lent, and nothing of the output buffer
 pub refusal_leaves : (c : Call) (p : Port) (m : Memory) (out : List ℕ) → ((effect_of c p m out).step.refusal ≡ 0 → ⊥) →

@@ -1,6 +1,6 @@
 -- Each event, at a state that a run reaches: what it does to the number of answers still needed, and to what is held.
+use Rattle.std.specs.Prelude.{Option, Some}
 use mathlib.Core.Logic.{◌⊎◌, inl, inr}
-use mathlib.Core.Option.{Option, some}
 use mathlib.Core.Path.{◌≡◌, refl, ap, sym, ◌∙◌, subst}
 use mathlib.Core.Bool.{Bool, true, false, cond, false≢true}
 use mathlib.Core.List.{List, [], ◌∷◌}
@@ -148,7 +148,7 @@ module _ (modes_of : ℕ → List ℕ) (start : System) (meets : Meets modes_of 
         (decided_outcome modes_of d meets got s.laptop s.memory out tells protocol_error refl _ (error_is s.laptop s.memory formed))
 
   -- an answer arrives
-  module _ (s : System) (got : List Message) (bytes : List ℕ) (at : Edition) (x : Message) (read : read_outcome bytes ≡ accepted at x) (way : on_way s.fate ≡ some bytes)
+  module _ (s : System) (got : List Message) (bytes : List ℕ) (at : Edition) (x : Message) (read : read_outcome bytes ≡ accepted at x) (way : on_way s.fate ≡ Some bytes)
       (same_list : listed s.dock ≡ listed d) (does : Does modes_of start arrive s)
       (laptop_is : (step modes_of arrive s).laptop ≡ (heard s.laptop s.memory (read_outcome bytes)).step.laptop)
       (lost_is : (step modes_of arrive s).laptop.pages ≡ s.laptop.pages → (step modes_of arrive s).laptop.candidate ≡ Absent → (step modes_of arrive s).lost ≡ s.lost)

@@ -7,8 +7,6 @@ use native.Mathlib.Omega.{arith}
 use lib.ListN.{length, get_or, take, drop, set, get_or-eq_default, length-take, length-set, drop_of_length-le}
 use lib.Seq.{sets, get_or-take, length-sets, drop-drop, drop_at}
 use Rattle.laws.specs.Bounded.{Below}
-use Rattle.laws.specs.Padded.{padded}
-use Rattle.laws.proofs.Padded.{padded_at}
 use Rattle.messages.specs.Layout.{bytes_of_object, objects_of, bytes_of}
 use Rattle.messages.proofs.Objects.{objects_bytes}
 use Rattle.laptop.specs.Catalogue.{Entry, modes_each}
@@ -26,14 +24,6 @@ module _ (extent : ℕ) (objects : List ℕ) (i : ℕ) where
 
   pub object_none : extent ≤ i → 0 ≡ get_or (take extent objects) i 0
   object_none h = sym (get_or-eq_default (take extent objects) 0 (omega (arith, length-take extent objects)))
-
-pub six_objects : (l : List ℕ) (p q r s t u : ℕ) → p ≡ get_or l 0 0 → q ≡ get_or l 1 0 → r ≡ get_or l 2 0 → s ≡ get_or l 3 0 → t ≡ get_or l 4 0 → u ≡ get_or l 5 0 →
-    p ∷ q ∷ r ∷ s ∷ t ∷ u ∷ [] ≡ padded l
-six_objects l p q r s t u ep eq er es et eu = rw (ep, eq, er, es, et, eu) (padded_at l)
-
-pub none_behind : (bytes : List ℕ) → length bytes ≡ 0 → bytes ≡ drop 1 bytes
-none_behind [] e = refl
-none_behind (x ∷ bytes) e = absurd (omega arith)
 
 -- where the loop over words stands
 pub record PuttingWords (bytes : List ℕ) (at number : ℕ) (start : List ℕ) (place : ℕ) (run : List ℕ) (i : ℕ) : Type 0 where

@@ -29,7 +29,8 @@ rebuilt c before = record {
   run = modes_into before.run 0 c.entries;
 }
 
--- the refusal number, and where the fault stands, or the end of the file; on acceptance how many identity objects, SVIDs and modes there are
+-- the refusal number, and where the fault stands, or the end of the file; on acceptance how many identity objects,
+-- SVIDs and modes there are
 pub record Rebuilt : Type 0 where
   pub refusal : ℕ
   pub at : ℕ

@@ -42,6 +42,7 @@ pub(crate) fn objects_in(bytes: &[u8], extent: usize) -> [u32; 6]
     array::from_fn(|i| object_of(body, extent, i))
 }
 
+// A test and no get_mut: what that gives past the end does not say that the run stays, so the proof did not close.
 fn put_word(run: &mut [u32], place: usize, word: u32)
     ensures { run.new ≡ set run.old place word }
 {

@@ -29,8 +29,8 @@ unfoldable pub record_of : ℕ → List ℕ → Record
 record_of kind body =
     cond (is_identity kind) (Identity kind) (cond (eqb kind svid_kind) (Svid (svid_in body)) (cond (eqb kind mode_kind) (Mode (mode_in body)) End))
 
--- what stands at a place among bytes: a whole record and the number of its bytes, the kind counted; a kind that there is not; a body that is cut; the end of
--- the bytes
+-- what stands at a place among bytes: a whole record and the number of its bytes, the kind counted; a kind that there
+-- is not; a body that is cut; the end of the bytes
 pub data Found : Type 0 where
   Whole : Record → ℕ → Found
   Unknown : Found

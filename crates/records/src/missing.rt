@@ -1,4 +1,5 @@
-// Why no whole record stands at a place of some bytes: a kind that there is not, a body that is cut, or the end of the bytes.
+// Why no whole record stands at a place of some bytes: a kind that there is not, a body that is cut, or the end of the
+// bytes.
 ghost use Rattle.std.specs.Prelude.{◌≡◌};
 ghost use Rattle.records.specs.Refused.{refusal_for};
 

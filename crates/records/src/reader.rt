@@ -1,4 +1,5 @@
-// The record reader: the caller's bytes and an offset, which may be any. Each method takes it apart, and leaves the work to one over plain slices.
+// The record reader: the caller's bytes and an offset, which may be any. Each method takes it apart, and leaves the
+// work to one over plain slices.
 ghost use Rattle.std.specs.Prelude.{◌≡◌};
 ghost use Rattle.records.specs.Records.{found_at};
 ghost use Rattle.records.specs.Shown.{as_found};

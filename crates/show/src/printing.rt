@@ -25,7 +25,13 @@ pub fn print_svid(svid: u16, stretch: &[u8]) {
     let mut line: Line<LONGEST> = Line::new();
     line.half(svid);
     for bytes in stretch.chunks_exact(MODE_RECORD) {
-        if let Ok(Whole { record: Record::Mode(word), .. }) = record_from(bytes, 0) {
+        if let Ok(
+            Whole {
+                record: Record::Mode(word),
+                ..
+            },
+        ) = record_from(bytes, 0)
+        {
             line.spaced_word(word);
         }
     }

@@ -4,23 +4,11 @@ use files::verdict::{print_counts, print_fault, print_refused};
 use laptop::RUN_WORDS;
 use messages::first;
 use rebuilding::{Rebuilt, read_catalogue};
-use streams::input::bytes_from;
-use stretches::find_stretch;
+use stretches::stretch_of;
 
 const MOST_SVIDS: usize = 72;
 
 const MOST_OBJECTS: usize = 6;
-
-// Prints the SVID with its modes, or that the file lacks it, and answers which.
-fn show_svid(bytes: &[u8], svid: u16) -> bool {
-    let place = find_stretch(bytes, svid);
-    if place.refusal != 0 {
-        print_refused(place.refusal);
-        return false;
-    }
-    print_svid(svid, bytes_from(bytes, place.at, place.length));
-    true
-}
 
 fn show_all(
     bytes: &[u8],
@@ -29,15 +17,23 @@ fn show_all(
     svids: &[u16; MOST_SVIDS],
 ) {
     print_identity(first(identity, rebuilt.extent));
-    for svid in svids.iter().take(rebuilt.count) {
-        show_svid(bytes, *svid);
+    for svid in first(svids, rebuilt.count) {
+        // Each has its stretch, since the file is sound: testing it spares the proof.
+        if let Ok(stretch) = stretch_of(bytes, *svid) {
+            print_svid(*svid, stretch.part);
+        }
     }
     print_counts(b"sound, ", rebuilt.count, rebuilt.modes);
 }
 
+// The SVID with its modes, or that the file lacks it.
 fn show_one(bytes: &[u8], rebuilt: Rebuilt, svid: u16) {
-    if show_svid(bytes, svid) {
-        print_counts(b"sound, ", rebuilt.count, rebuilt.modes);
+    match stretch_of(bytes, svid) {
+        Ok(stretch) => {
+            print_svid(svid, stretch.part);
+            print_counts(b"sound, ", rebuilt.count, rebuilt.modes);
+        }
+        Err(fault) => print_refused(fault.refusal),
     }
 }
 
@@ -47,13 +43,11 @@ pub fn show(bytes: &[u8], svid: Option<u16>) {
     let mut svids = [0u16; MOST_SVIDS];
     let mut modes = [0u8; MOST_SVIDS];
     let mut run = [0u32; RUN_WORDS];
-    let rebuilt = read_catalogue(bytes, &mut svids, &mut modes, &mut identity, &mut run);
-    if rebuilt.refusal != 0 {
-        print_fault(b"refused ", rebuilt.refusal, rebuilt.at);
-        return;
-    }
-    match svid {
-        Some(svid) => show_one(bytes, rebuilt, svid),
-        None => show_all(bytes, rebuilt, &identity, &svids),
+    match read_catalogue(bytes, &mut svids, &mut modes, &mut identity, &mut run) {
+        Ok(rebuilt) => match svid {
+            Some(svid) => show_one(bytes, rebuilt, svid),
+            None => show_all(bytes, rebuilt, &identity, &svids),
+        },
+        Err(fault) => print_fault(b"refused ", fault.refusal, fault.at),
     }
 }

@@ -4,11 +4,12 @@ ghost use Rattle.std.specs.Prelude.{◌≤◌};
 // The number of standard output among the open files.
 pub const STDOUT: i32 = 1;
 
-// A proved loop has to end, and nothing says that the input does. So after this many answers the input counts as ended, and after this many streams.
+// A proved loop has to end, and nothing says that the input does. So after this many answers the input counts as ended,
+// and after this many streams.
 pub const MOST: u64 = 1000000;
 
-// Why the vector or event that was to come next is not answered. Of the programs that read several streams, a new one may stand in its place, or one that
-// begins badly.
+// Why the vector or event that was to come next is not answered. Of the programs that read several streams, a new one
+// may stand in its place, or one that begins badly.
 #[derive(Clone, Copy, PartialEq, Eq)]
 pub enum Stop {
     NewStream,
@@ -26,8 +27,8 @@ pub struct Finish {
 }
 
 impl Finish {
-    // Prints a program's last line: how the input ended, and how many were answered before that. `name` says of what, and ends the line. It stands once
-    // in an output, so it is not worth a buffer.
+    // Prints a program's last line: how the input ended, and how many were answered before that. `name` says of what,
+    // and ends the line. It stands once in an output, so it is not worth a buffer.
     pub fn print(self, name: &[u8]) {
         match self.stop {
             Stop::Unknown => io::write_all(STDOUT, b"unknown kind after "),
@@ -39,7 +40,8 @@ impl Finish {
     }
 }
 
-// Answers a stream, after so many answers to the streams before it. `answer` is given the number of each vector or event in its own stream.
+// Answers a stream, after so many answers to the streams before it. `answer` is given the number of each vector or
+// event in its own stream.
 pub fn answer_each<F: FnMut(u64) -> Result<(), Stop>>(before: u64, mut answer: F) -> Finish
     requires { F.IsAlwaysCallable answer }
     ensures { result.answered ≤ 1000000 }

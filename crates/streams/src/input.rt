@@ -1,6 +1,4 @@
 // Reading standard input, and the numbers that its bytes give, low byte first.
-ghost use Rattle.std.specs.Prelude.{◌≡◌, take, drop};
-
 use crate::finish::Stop;
 
 // The number of standard input among the open files.
@@ -28,25 +26,8 @@ pub fn read_bytes<const N: usize>() -> Result<[u8; N], Stop> {
 
 // The next byte, unless the input ends before it.
 pub fn read_byte() -> Option<u8> {
-    let mut byte = [0];
-    match fill(&mut byte) {
-        Ok(()) => Some(byte[0]),
-        Err(_) => None,
-    }
-}
-
-// The first bytes, or all where there are fewer: testing it spares the callers the proof.
-pub fn first_bytes(bytes: &[u8], count: usize) -> &[u8]
-    ensures { result.now ≡ take count bytes.now }
-{
-    bytes.get(..count).unwrap_or(bytes)
-}
-
-// So many bytes from a place on, or as many as there are.
-pub fn bytes_from(bytes: &[u8], start: usize, count: usize) -> &[u8]
-    ensures { result.now ≡ take count (drop start bytes.now) }
-{
-    first_bytes(bytes.get(start..).unwrap_or(&[]), count)
+    let [byte] = read_bytes::<1>().ok()?;
+    Some(byte)
 }
 
 pub fn read_half() -> Result<u16, Stop> {

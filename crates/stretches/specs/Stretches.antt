@@ -15,7 +15,8 @@ not_listed = 12
 abbrev pub svid_size : ℕ
 svid_size = 3
 
--- the refusal number and the fault's offset; on acceptance where the stretch begins, and how many bytes it has, which are none with a refusal
+-- the refusal number and the fault's offset; on acceptance where the stretch begins, and how many bytes it has, which
+-- are none with a refusal
 pub record Place : Type 0 where
   pub refusal : ℕ
   pub at : ℕ
@@ -52,7 +53,8 @@ pub record PartOf (bytes : Bor (List ℕ)) (place : Place) (part : Bor (List ℕ
   pub block_is : part.ref_ptr.0 ≡ bytes.ref_ptr.0
   pub offset_is : part.ref_ptr.1 ≡ bytes.ref_ptr.1 + place.at
 
--- what is handed back: that part of the bytes, none with a refusal; the refusal number; and where the fault or the part stands
+-- what is handed back: that part of the bytes, none with a refusal; the refusal number; and where the fault or the part
+-- stands
 pub record Stretch : Type 0 where
   pub part : Bor (List ℕ)
   pub refusal : ℕ

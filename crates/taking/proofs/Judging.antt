@@ -31,12 +31,19 @@ same_length (x ∷ a) (y ∷ b) h = go (eqb x y) (same_length a b (λ e. h (ap s
     go true e = e
     go false e = refl
 
-pub pointwise_same : (a b : List ℕ) → pointwise nat_eq b a ≡ same_list a b
+pub pointwise_same : (a b : List ℕ) → pointwise nat_eq a b ≡ same_list a b
 unfolding same_list
 pointwise_same [] [] = refl
 pointwise_same [] (y ∷ b) = refl
 pointwise_same (x ∷ a) [] = refl
 pointwise_same (x ∷ a) (y ∷ b) = grind (arith, nat_tests, pointwise_same a b)
+
+same_either_way : (a b : List ℕ) → same_list b a ≡ same_list a b
+unfolding same_list
+same_either_way [] [] = refl
+same_either_way [] (y ∷ b) = refl
+same_either_way (x ∷ a) [] = refl
+same_either_way (x ∷ a) (y ∷ b) = grind (arith, nat_tests, same_either_way a b)
 
 -- the values before the first zero
 pub before_most : (v : List ℕ) → before v ≤ length v
@@ -87,7 +94,7 @@ module _ (l v : List ℕ) where
 
   pub repeat_is : length v ≡ 12 → ends_with nat_eq l v ≡ is_repeat l v
   unfolding is_repeat
-  repeat_is e = rw (e, pointwise_same (drop (length l - 12) l) v) (go (leb 12 (length l)) refl)
+  repeat_is e = rw (e, pointwise_same v (drop (length l - 12) l), same_either_way (drop (length l - 12) l) v) (go (leb 12 (length l)) refl)
     where
       go : (t : Bool) → leb 12 (length l) ≡ t → same_list (drop (length l - 12) l) v ≡ (t && same_list (drop (length l - 12) l) v)
       go true h = refl

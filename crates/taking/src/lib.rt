@@ -2,7 +2,7 @@
 
 // Taking a page: what its values are to the gathered list. Document 01, "Taking a page".
 ghost use Rattle.std.specs.Prelude.{◌≡◌, length};
-ghost use Rattle.taking.specs.Taking.{is_repeat, is_full, is_ending, all_new, adds, nothing, ending_verdict, verdict};
+ghost use Rattle.taking.specs.Taking.{same_list, is_repeat, is_full, is_ending, all_new, adds, nothing, ending_verdict, verdict};
 ghost use Rattle.taking.specs.Taking.{before as Taking·before};
 
 use pages::{MOST_SVIDS, PER_PAGE, is_in};
@@ -14,6 +14,14 @@ pub enum Verdict {
     Repeat,
     More,
     Ends(u8),
+}
+
+// Are the two lists the same?
+#[tactic(auto, using(crate::proofs::Judging::pointwise_same))]
+pub fn same(a: &[u16], b: &[u16]) -> bool
+    ensures { result ≡ same_list a.now b.now }
+{
+    a == b
 }
 
 #[tactic(auto, using(crate::proofs::Judging::repeat_steps))]

@@ -136,7 +136,8 @@ impl<const N: usize> Line<N> {
         ensures { self.new ≡ with_text N self.old (hex_bytes bytes.now) }
     {
         for byte in bytes {
-            self.text(&[digit(byte / 16), digit(byte % 16)]);
+            self.byte(digit(byte / 16));
+            self.byte(digit(byte % 16));
         }
     }
 
@@ -182,6 +183,18 @@ impl<const N: usize> Line<N> {
         ensures { self.new ≡ with_text N self.old (spaced (45 ∷ [])) }
     {
         self.text(b" -");
+    }
+
+    // The bytes with a space before them, where there are any to tell.
+    pub fn bytes_or_nothing(&mut self, bytes: &[u8])
+        ensures some { 0 < length bytes.now → self.new ≡ with_text N self.old (spaced (hex_bytes bytes.now)) }
+        ensures none { length bytes.now ≡ 0 → self.new ≡ with_text N self.old (spaced (45 ∷ [])) }
+    {
+        if bytes.is_empty() {
+            self.nothing();
+        } else {
+            self.spaced_bytes(bytes);
+        }
     }
 }
 

@@ -37,6 +37,7 @@ fn timer(laptop: Laptop, first: u8, last: u8) -> Result<Accepted, Refused>
     }
 }
 
+// A call for each timer, as the C interface has them.
 pub fn response_timer(laptop: Laptop) -> Result<Accepted, Refused>
     ensures { stepped result ≡ step_of laptop (decide_timer 1 3 laptop laptop.wait) 0 }
 {

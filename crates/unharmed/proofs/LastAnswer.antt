@@ -1,7 +1,7 @@
 -- The last answer needed as the laptop tells it, by what it awaits and has. A step on the way to the theorems of `progress`, which tell it from the
 -- dock's data.
+use Rattle.std.specs.Prelude.{Option, Some, None}
 use mathlib.Core.Logic.{◌⊎◌}
-use mathlib.Core.Option.{Option, none, some}
 use mathlib.Core.Path.{◌≡◌}
 use Prim.Native.Nat.{ℕ, ◌+◌}
 use mathlib.Core.Bool.{Bool, true, false, ◌&&◌, ◌||◌}
@@ -30,8 +30,8 @@ is_last_outcome l (refused number) = false
 is_last_outcome l (accepted e m) = is_last_head l m.head
 
 abbrev pub is_last_of : Laptop → Option (List ℕ) → Bool
-is_last_of l none = false
-is_last_of l (some bytes) = is_last_outcome l (read_outcome bytes)
+is_last_of l None = false
+is_last_of l (Some bytes) = is_last_outcome l (read_outcome bytes)
 
 abbrev pub is_last_answer : Event → System → Bool
 is_last_answer e s = is_last_of s.laptop (arriving e s.fate)

@@ -1,6 +1,6 @@
 -- Each event keeps the invariant, and what it does to the gathering and to what is held.
+use Rattle.std.specs.Prelude.{Some}
 use mathlib.Core.Logic.{◌⊎◌, inl, inr}
-use mathlib.Core.Option.{some}
 use mathlib.Core.Path.{◌≡◌, refl, ap, ap₂, sym, ◌∙◌, subst}
 use mathlib.Core.Bool.{Bool, true, false, cond, false≢true}
 use mathlib.Core.List.{List, [], ◌∷◌}
@@ -205,7 +205,7 @@ module _ (modes_of : ℕ → List ℕ) (start : System) where
       (((heard s.laptop s.memory (read_outcome bytes)).step.refusal ≡ 0) ⊎
       (((heard s.laptop s.memory (read_outcome bytes)).step.refusal ≡ 6) ⊎ ((heard s.laptop s.memory (read_outcome bytes)).step.refusal ≡ 14)))
 
-  arrived_does : (s : System) (bytes : List ℕ) (at : Edition) (x : Message) → on_way s.fate ≡ some bytes → read_outcome bytes ≡ accepted at x →
+  arrived_does : (s : System) (bytes : List ℕ) (at : Edition) (x : Message) → on_way s.fate ≡ Some bytes → read_outcome bytes ≡ accepted at x →
       (step modes_of arrive s).laptop ≡ (heard s.laptop s.memory (read_outcome bytes)).step.laptop →
       (step modes_of arrive s).memory ≡ (heard s.laptop s.memory (read_outcome bytes)).after → HeardDoes s bytes x → Does arrive s
   arrived_does s bytes at x way read el em f =

@@ -1,4 +1,5 @@
-// A write vector: what a header says, the number of an edition, the room for the output, the number of objects, then the objects.
+// A write vector: what a header says, the number of an edition, the room for the output, the number of objects, then
+// the objects.
 use crate::Line;
 use messages::{Head, Refusal};
 use streams::finish::Stop;

@@ -1,28 +1,24 @@
 -- `catalogue_read` meets its promise.
-use mathlib.Core.Path.{◌≡◌, refl, ap, sym, ◌∙◌}
+use mathlib.Core.Path.{refl, ap, ◌∙◌}
 use Prim.Native.Nat.{ℕ}
-use native.Mathlib.Omega.{arith}
+use Rattle.messages.proofs.Refusals.{numbered}
 use Rattle.controller.specs.CatalogueReading.{with_offset}
 use Rattle.controller.proofs.ReadingBack.{small, read_accepted, read_refused}
 use Rattle.controller.proofs.catalogue_reading.catalogue_read.Goals as goal
 
-pub with_offset-requires : goal.with_offset-requires
-with_offset-requires c =
-    (small c.read_catalogue-read.ensures).at_most
-
-pub returns-then-read-ne0 : goal.returns-then-read-ne0
-returns-then-read-ne0 c =
-    read_refused _ _ _ _ _ _ c.read_catalogue-read.ensures _ c.with_offset.ensures _ c.if-read-ne0.true refl
-
 pub sizes_of-requires : goal.sizes_of-requires
-sizes_of-requires c =
-    small c.read_catalogue-read.ensures
+sizes_of-requires c = small c.in-Ok.ensures
 
-pub with_offset-requires-2 : goal.with_offset-requires-2
-with_offset-requires-2 c =
-    (small c.read_catalogue-read.ensures).at_most
+pub with_offset-requires : goal.with_offset-requires
+with_offset-requires c = (small c.in-Ok.ensures).at_most
 
-pub returns : goal.returns
-returns c =
-    let z : c.read_catalogue-read.result.refusal ≡ 0 = omega (arith, c.if-read-ne0.false) in
-    read_accepted _ _ _ _ _ _ c.read_catalogue-read.ensures _ (c.with_offset-2.ensures ∙ ap (λ (n : ℕ). with_offset n c.read_catalogue-read.result.at) (sym z)) _ z c.sizes_of.ensures
+pub returns-in-Ok : goal.returns-in-Ok
+returns-in-Ok c = read_accepted _ _ _ _ _ _ c.in-Ok.ensures _ c.with_offset.ensures _ refl c.sizes_of.ensures
+
+pub with_offset-requires-in-Err : goal.with_offset-requires-in-Err
+with_offset-requires-in-Err c = (small c.in-Err.ensures).at_most
+
+pub returns-in-Err : goal.returns-in-Err
+returns-in-Err c =
+    read_refused _ _ _ _ _ _ c.in-Err.ensures _ (c.with_offset-in-Err.ensures ∙ ap (λ (n : ℕ). with_offset n c.in-Err.fault.at) c.from.ensures) _
+    (numbered c.in-Err.fault.refusal) refl

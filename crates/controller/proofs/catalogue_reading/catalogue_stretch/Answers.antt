@@ -1,28 +1,25 @@
 -- `catalogue_stretch` meets its promise.
-use mathlib.Core.Path.{◌≡◌, refl, ap, sym, ◌∙◌}
+use mathlib.Core.Path.{refl, ap, ◌∙◌}
 use Prim.Native.Nat.{ℕ}
 use native.Mathlib.Omega.{arith}
+use Rattle.messages.proofs.Refusals.{numbered}
 use Rattle.controller.specs.CatalogueReading.{with_offset}
 use Rattle.controller.proofs.ReadingBack.{place_small, stretch_accepted, stretch_refused}
 use Rattle.controller.proofs.catalogue_reading.catalogue_stretch.Goals as goal
 
-pub with_offset-requires : goal.with_offset-requires
-with_offset-requires c =
-    omega (arith, place_small _ _ c.find_stretch-place.ensures)
-
-pub returns-then-place-ne0 : goal.returns-then-place-ne0
-returns-then-place-ne0 c =
-    stretch_refused _ _ c.find_stretch-place.ensures _ c.with_offset.ensures _ c.if-place-ne0.true refl
-
 pub overflow_cast-length : goal.overflow_cast-length
-overflow_cast-length c =
-    omega (arith, place_small _ _ c.find_stretch-place.ensures)
+overflow_cast-length c = omega (arith, place_small _ _ c.in-Ok.ensures)
 
-pub with_offset-requires-2 : goal.with_offset-requires-2
-with_offset-requires-2 c =
-    omega (arith, place_small _ _ c.find_stretch-place.ensures)
+pub with_offset-requires : goal.with_offset-requires
+with_offset-requires c = omega (arith, place_small _ _ c.in-Ok.ensures)
 
-pub returns : goal.returns
-returns c =
-    let z : c.find_stretch-place.result.refusal ≡ 0 = omega (arith, c.if-place-ne0.false) in
-    stretch_accepted _ _ c.find_stretch-place.ensures _ (c.with_offset-2.ensures ∙ ap (λ (n : ℕ). with_offset n c.find_stretch-place.result.at) (sym z)) _ z refl
+pub returns-in-Ok : goal.returns-in-Ok
+returns-in-Ok c = stretch_accepted _ _ c.in-Ok.ensures _ c.with_offset.ensures _ refl refl
+
+pub with_offset-requires-in-Err : goal.with_offset-requires-in-Err
+with_offset-requires-in-Err c = omega (arith, place_small _ _ c.in-Err.ensures)
+
+pub returns-in-Err : goal.returns-in-Err
+returns-in-Err c =
+    stretch_refused _ _ c.in-Err.ensures _ (c.with_offset-in-Err.ensures ∙ ap (λ (n : ℕ). with_offset n c.in-Err.fault.at) c.from.ensures) _
+    (numbered c.in-Err.fault.refusal) refl

@@ -1,7 +1,6 @@
 -- `dock_message` meets its promise.
-use mathlib.Core.Path.{refl}
 use Rattle.controller.proofs.DockHanding.{sends_in}
 use Rattle.controller.proofs.dock_calls.dock_message.Goals as goal
 
 pub returns : goal.returns
-returns c = sends_in c.hand_over.ensures refl refl refl refl c.dock_from.ensures c.message-step.ensures
+returns c = sends_in (c.hand_over.ensures c.dock_from.result) c.dock_from.ensures c.message-given.ensures

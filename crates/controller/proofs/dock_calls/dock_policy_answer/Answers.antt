@@ -1,7 +1,6 @@
 -- `dock_policy_answer` meets its promise.
-use mathlib.Core.Path.{refl}
 use Rattle.controller.proofs.DockHanding.{policy_as, sends_in}
 use Rattle.controller.proofs.dock_calls.dock_policy_answer.Goals as goal
 
 pub returns : goal.returns
-returns c = sends_in c.hand_over.ensures refl refl refl refl c.dock_from.ensures (policy_as _ _ c.policy_from.ensures c.policy_answer-step.ensures)
+returns c = sends_in (c.hand_over.ensures c.dock_from.result) c.dock_from.ensures (policy_as _ _ c.policy_from.ensures c.policy_answer-given.ensures)

@@ -1,10 +1,15 @@
 -- `hand_over` meets its promise.
-use mathlib.Core.Path.{refl, ◌∙◌}
-use Rattle.controller.proofs.Accepting.{accepted_written, accepted_kept}
+use mathlib.Core.Path.{◌≡◌, refl, sym, ◌∙◌}
+use Rattle.laws.specs.Lent.{accepted}
+use Rattle.messages.proofs.Refusals.{numbered}
+use Rattle.controller.proofs.Accepting.{accepted_kept}
 use Rattle.controller.proofs.dock_state.hand_over.Goals as goal
 
-pub returns-then-step-eq0 : goal.returns-then-step-eq0
-returns-then-step-eq0 c = record { number_is = refl; state_is = c.dock_numbers-after.ensures ∙ accepted_written _ _ _ c.if-step-eq0.true; bytes_is = accepted_written _ _ _ c.if-step-eq0.true }
+pub returns-in-Ok : goal.returns-in-Ok
+unfolding accepted
+returns-in-Ok c dock = rw c.in-Ok.is (refl, c.dock_numbers.ensures, refl)
 
-pub returns-else-step-eq0 : goal.returns-else-step-eq0
-returns-else-step-eq0 c = record { number_is = refl; state_is = accepted_kept _ _ _ c.if-step-eq0.false; bytes_is = accepted_kept _ _ _ c.if-step-eq0.false }
+pub returns-in-Err : goal.returns-in-Err
+returns-in-Err c dock =
+    let refused : c.from.result ≡ 0 → ⊥ = λ e. numbered c.in-Err.refusal (sym c.from.ensures ∙ e) in
+    rw c.in-Err.is (c.from.ensures, accepted_kept _ _ _ refused, accepted_kept _ _ _ refused)

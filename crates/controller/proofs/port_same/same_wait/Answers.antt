@@ -4,4 +4,4 @@ use Rattle.controller.proofs.PortSame.{same_wait}
 use Rattle.controller.proofs.port_same.same_wait.Goals as goal
 
 pub returns : goal.returns
-returns c = c.eq.ensures ∙ same_wait c.args.a c.args.b
+returns c = c.eq.ensures ∙ same_wait c.args.one c.args.other

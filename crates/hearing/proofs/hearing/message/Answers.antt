@@ -1,4 +1,5 @@
--- `message` meets its promise: the answer of reading is taken apart, and each case of it is a way out of the definition.
+-- `message` meets its promise: the answer of reading is taken apart, and each case of it is a way out of the
+-- definition.
 use mathlib.Core.Path.{refl, sym, ◌∙◌}
 use Rattle.std.specs.Prelude.{Ok, Err}
 use Rattle.messages.specs.Reading.{read_outcome, as_shown}

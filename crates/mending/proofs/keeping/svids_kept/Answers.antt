@@ -11,5 +11,5 @@ overflow_sub-result c = omega (arith, bare_one c.args.walk (sym c.is_bare.ensure
 pub returns-then-is_bare : goal.returns-then-is_bare
 returns-then-is_bare c = sym (kept_test _ true (sym c.is_bare.ensures ∙ c.if-is_bare.true))
 
-pub returns : goal.returns
-returns c = sym (kept_test _ false (sym c.is_bare.ensures ∙ c.if-is_bare.false))
+pub returns-else-is_bare : goal.returns-else-is_bare
+returns-else-is_bare c = sym (kept_test _ false (sym c.is_bare.ensures ∙ c.if-is_bare.false))

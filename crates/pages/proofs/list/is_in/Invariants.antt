@@ -1,4 +1,5 @@
--- `is_in` meets its promise. The loop's invariant: the list has the SVID exactly if it was found or what is left has it.
+-- `is_in` meets its promise. The loop's invariant: the list has the SVID exactly if it was found or what is left has
+-- it.
 use mathlib.Core.Path.{◌≡◌}
 use mathlib.Core.Bool.{◌||◌}
 use lib.ListN.{drop}

@@ -1,6 +1,4 @@
 -- `seen` meets its promise.
-use Rattle.std.proofs.lemmas.Grind.{common_steps}
-use native.Mathlib.Omega.{arith}
 use Rattle.port.specs.Sides.{seen}
 use Rattle.port.proofs.sides.seen.Goals as goal
 

@@ -1,4 +1,5 @@
--- `copy_modes` meets its promise. The loop's invariant: the words before k are copied, and what the definition gives is theirs and the rest's.
+-- `copy_modes` meets its promise. The loop's invariant: the words before k are copied, and what the definition gives is
+-- theirs and the rest's.
 use mathlib.Core.Path.{◌≡◌}
 use lib.ListN.{length}
 use Rattle.publishing.specs.Publishing.{copied}

@@ -11,7 +11,7 @@ use Rattle.dock.specs.declared.Policy.{Policy}
 use Rattle.dock.specs.Step.{Step, stepped}
 use Rattle.dock.specs.declared.Accepted.{Accepted}
 use Rattle.messages.specs.declared.refusal.Refusal.{Refusal}
-use Rattle.messages.proofs.Refusals.{numbered}
+use Rattle.messages.proofs.Numbers.{numbered}
 use Rattle.controller.specs.Dock.{dock_numbers}
 use Rattle.controller.specs.DockCalls.{DockStep, dock_lent, DockSendsNothing, DockSends, load_step, DockLoads}
 use Rattle.laws.specs.Lent.{Lent, lent, left, accepted}

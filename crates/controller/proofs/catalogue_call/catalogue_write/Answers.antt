@@ -1,6 +1,6 @@
 -- `catalogue_write` meets its promise.
 use mathlib.Core.Path.{refl}
-use Rattle.messages.proofs.Refusals.{numbered}
+use Rattle.messages.proofs.Numbers.{numbered}
 use Rattle.controller.proofs.LaptopHanding.{held_as, wrote, wrote_nothing}
 use Rattle.controller.proofs.catalogue_call.catalogue_write.Goals as goal
 

@@ -1,7 +1,7 @@
 -- `catalogue_read` meets its promise.
 use mathlib.Core.Path.{refl, ap, ◌∙◌}
 use Prim.Native.Nat.{ℕ}
-use Rattle.messages.proofs.Refusals.{numbered}
+use Rattle.messages.proofs.Numbers.{numbered}
 use Rattle.controller.specs.CatalogueReading.{with_offset}
 use Rattle.controller.proofs.ReadingBack.{small, read_accepted, read_refused}
 use Rattle.controller.proofs.catalogue_reading.catalogue_read.Goals as goal

@@ -2,7 +2,7 @@
 use mathlib.Core.Path.{refl, ap, ◌∙◌}
 use Prim.Native.Nat.{ℕ}
 use native.Mathlib.Omega.{arith}
-use Rattle.messages.proofs.Refusals.{numbered}
+use Rattle.messages.proofs.Numbers.{numbered}
 use Rattle.controller.specs.CatalogueReading.{with_offset}
 use Rattle.controller.proofs.ReadingBack.{place_small, stretch_accepted, stretch_refused}
 use Rattle.controller.proofs.catalogue_reading.catalogue_stretch.Goals as goal

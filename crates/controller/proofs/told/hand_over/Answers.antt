@@ -1,7 +1,7 @@
 -- `hand_over` meets its promise.
 use mathlib.Core.Path.{refl, ap, sym, ◌∙◌}
 use Rattle.laws.specs.Lent.{accepted}
-use Rattle.messages.proofs.Refusals.{numbered}
+use Rattle.messages.proofs.Numbers.{numbered}
 use Rattle.controller.specs.Port.{numbers_after}
 use Rattle.controller.proofs.Accepting.{accepted_kept}
 use Rattle.controller.proofs.told.hand_over.Goals as goal

@@ -56,12 +56,27 @@ fn told_numbers(length: u8, told: Told, side: u8) -> [u32; 8]
     }
 }
 
-fn port_in(given: Result<Accepted, Refused>) -> Port
+pub(crate) fn port_in(given: Result<Accepted, Refused>) -> Port
     ensures { result ≡ (stepped given).port }
 {
     match given {
         Ok(accepted) => accepted.port,
         Err(refused) => refused.port,
+    }
+}
+
+// On acceptance writes what is handed over into what was lent; gives the refusal number.
+#[inline(always)]
+pub(crate) fn tell(given: Result<Accepted, Refused>, handed: &mut [u32; 8]) -> u8
+    ensures { (result ≡ (stepped given).refusal)
+        × (handed.new ≡ accepted result (handed_numbers (stepped given)) handed.old) }
+{
+    match given {
+        Ok(accepted) => {
+            *handed = told_numbers(accepted.length, accepted.told, side_number(accepted.side));
+            0
+        }
+        Err(refused) => u8::from(refused.refusal),
     }
 }
 
@@ -78,11 +93,5 @@ pub(crate) fn hand_over(
         × (handed.new ≡ accepted result (handed_numbers (stepped given)) handed.old) }
 {
     put_port(port_in(given), state);
-    match given {
-        Ok(accepted) => {
-            *handed = told_numbers(accepted.length, accepted.told, side_number(accepted.side));
-            0
-        }
-        Err(refused) => u8::from(refused.refusal),
-    }
+    tell(given, handed)
 }

@@ -75,7 +75,10 @@ pub(crate) fn hear_answer(
     if !brings_part(head.command) {
         return hear_mode(laptop, head.kind, Request::from(head), held_svids, entered);
     }
-    let accepted = gather(laptop, received, svids, modes, identity, run)?;
+    let accepted = match gather(laptop, received, svids, modes, identity, run) {
+        Ok(accepted) => accepted,
+        Err(refused) => return Err(refused),
+    };
     if !completes(head.kind, accepted.laptop) {
         return Ok(accepted);
     }

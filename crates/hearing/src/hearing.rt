@@ -81,9 +81,9 @@ pub fn message(
     if short_runs(run, held_run) {
         return refuse(Refusal::TooShort, laptop);
     }
-    let received = match reading::read(bytes) {
-        Ok(received) => received,
-        Err(refusal) => return refuse(refusal, laptop),
+    let read = reading::read(bytes);
+    let Ok(received) = &read else {
+        return refuse(read.unwrap_err(), laptop);
     };
     let head = received.head;
     if head.kind == REQ {
@@ -94,7 +94,7 @@ pub fn message(
     }
     hear_answer(
         laptop,
-        &received,
+        received,
         svids,
         modes,
         identity,

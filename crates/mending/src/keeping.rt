@@ -45,6 +45,8 @@ pub(crate) fn kept_of(walk: Walk) -> Kept
 }
 
 // Puts so many of the file's first bytes, and the end behind them.
+// A call of its own: as a part of its caller it costs `catalogue_mend` sixteen bytes of stack.
+#[inline(never)]
 pub(crate) fn put_kept(bytes: &[u8], number: usize, out: &mut [u8])
     requires { (number ≤ length bytes.now) × (number < length out.old) }
     ensures { out.new ≡ sets out.old 0 (take number bytes.now ++ end_kind ∷ []) }

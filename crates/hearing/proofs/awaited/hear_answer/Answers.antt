@@ -1,8 +1,6 @@
 -- `hear_answer` meets its promise.
-use mathlib.Core.Path.{◌≡◌, refl, sym, ◌∙◌}
-use native.Mathlib.Omega.{arith}
-use Rattle.std.specs.Prelude.{Ok, Err}
-use Rattle.std.proofs.lemmas.Grind.{common_steps}
+use mathlib.Core.Path.{refl, sym, ◌∙◌}
+use Rattle.std.specs.Prelude.{Ok}
 use Rattle.laptop.specs.State.{memory}
 use Rattle.laptop.specs.Step.{stepped}
 use Rattle.hearing.proofs.Parts.{answer_mode, answer_kept, answer_published, part_refused}
@@ -16,17 +14,16 @@ returns-then-not-brings_part c =
     let other = (sym c.brings_part.ensures ∙ c.if-not-brings_part.true) in
     answer_mode a.laptop m r.edition r.head r.count r.objects c.requires.0 c.requires.1 other _ c.from.ensures _ refl _ _ c.hear_mode.ensures.0 c.hear_mode.ensures.1
 
-pub returns-in_err-accepted : goal.returns-in_err-accepted
-returns-in_err-accepted c =
+pub returns-in-Err : goal.returns-in-Err
+returns-in-Err c =
     let a = c.args in
     let r = a.received.now in
     let m = memory a.svids.now a.modes.now a.identity.now a.run.now a.held_svids.now a.held_modes.now a.held_identity.now a.held_run.now a.entered.now in
-    let refused = c.in_err-accepted.field-0.0 in
+    let refused = c.in-Err.refused in
     let part = (sym c.brings_part.ensures ∙ c.if-not-brings_part.false) in
-    let gathered = c.in_err-accepted.ensures a.held_svids.now a.held_modes.now a.held_identity.now a.held_run.now a.entered.now in
+    let gathered = c.in-Err.ensures a.held_svids.now a.held_modes.now a.held_identity.now a.held_run.now a.entered.now in
     let kept = part_refused a.laptop m r.edition r.head.command r.head.kind r.count r.objects refused _ gathered in
-    let e : c.from_residual.result ≡ Err refused = grind (arith, common_steps) in
-    rw e (answer_kept a.laptop m r.edition r.head r.count r.objects c.requires.0 c.requires.1 part _ _ gathered kept)
+    answer_kept a.laptop m r.edition r.head r.count r.objects c.requires.0 c.requires.1 part _ _ gathered kept
 
 pub returns-then-not-completes : goal.returns-then-not-completes
 returns-then-not-completes c =
@@ -34,7 +31,7 @@ returns-then-not-completes c =
     let r = a.received.now in
     let m = memory a.svids.now a.modes.now a.identity.now a.run.now a.held_svids.now a.held_modes.now a.held_identity.now a.held_run.now a.entered.now in
     let part = (sym c.brings_part.ensures ∙ c.if-not-brings_part.false) in
-    let gathered = c.in_ok-accepted.ensures a.held_svids.now a.held_modes.now a.held_identity.now a.held_run.now a.entered.now in
+    let gathered = c.in-Ok.ensures a.held_svids.now a.held_modes.now a.held_identity.now a.held_run.now a.entered.now in
     answer_kept a.laptop m r.edition r.head r.count r.objects c.requires.0 c.requires.1 part _ _ gathered ((sym c.completes.ensures ∙ c.if-not-completes.true))
 
 pub returns : goal.returns
@@ -43,7 +40,7 @@ returns c =
     let r = a.received.now in
     let m = memory a.svids.now a.modes.now a.identity.now a.run.now a.held_svids.now a.held_modes.now a.held_identity.now a.held_run.now a.entered.now in
     let part = (sym c.brings_part.ensures ∙ c.if-not-brings_part.false) in
-    let gathered = c.in_ok-accepted.ensures a.held_svids.now a.held_modes.now a.held_identity.now a.held_run.now a.entered.now in
+    let gathered = c.in-Ok.ensures a.held_svids.now a.held_modes.now a.held_identity.now a.held_run.now a.entered.now in
     let whole = (sym c.completes.ensures ∙ c.if-not-completes.false) in
-    let last = c.publish-laptop.ensures (stepped (Ok c.in_ok-accepted.accepted)) in
+    let last = c.publish-laptop.ensures (stepped (Ok c.in-Ok.accepted)) in
     answer_published a.laptop m r.edition r.head r.count r.objects c.requires.0 c.requires.1 part _ _ gathered whole _ _ _ _ _ last

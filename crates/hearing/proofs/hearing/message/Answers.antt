@@ -1,6 +1,6 @@
 -- `message` meets its promise: the answer of reading is taken apart, and each case of it is a way out of the
 -- definition.
-use mathlib.Core.Path.{refl, sym, ◌∙◌}
+use mathlib.Core.Path.{refl, ap, sym, ◌∙◌}
 use Rattle.std.specs.Prelude.{Ok, Err}
 use Rattle.messages.specs.Reading.{read_outcome, as_shown}
 use Rattle.messages.specs.Refusals.{number_of}
@@ -16,15 +16,16 @@ returns-then-short_runs c =
     let e = results _ _ (heard_short a.laptop m (read_outcome a.bytes.now) (sym c.short_runs.ensures ∙ c.if-short_runs.true)) in
     (c.refuse.ensures ∙ e.0, e.1)
 
-pub returns-in-Err : goal.returns-in-Err
-returns-in-Err c =
+pub returns-in_default : goal.returns-in_default
+returns-in_default c =
     let a = c.args in
-    let refusal = c.in-Err.refusal in
+    let refusal = c.unwrap_err.result in
     let m = memory a.svids.now a.modes.now a.identity.now a.run.now a.held_svids.now a.held_modes.now a.held_identity.now a.held_run.now a.entered.now in
     let long = sym c.short_runs.ensures ∙ c.if-short_runs.false in
-    let is = shown_refused (read_outcome a.bytes.now) (as_shown (Err refusal)) (number_of refusal) c.in-Err.ensures refl in
+    let read = ap as_shown (sym c.unwrap_err.ensures) ∙ c.read-read.ensures in
+    let is = shown_refused (read_outcome a.bytes.now) (as_shown (Err refusal)) (number_of refusal) read refl in
     let e = results _ _ (heard_refused a.laptop m long (read_outcome a.bytes.now) _ is) in
-    (c.refuse-in-Err.ensures ∙ e.0, e.1)
+    (c.refuse-in_default.ensures ∙ e.0, e.1)
 
 pub returns-then-head-eq-REQ : goal.returns-then-head-eq-REQ
 returns-then-head-eq-REQ c =
@@ -32,7 +33,7 @@ returns-then-head-eq-REQ c =
     let read = as_shown (Ok c.in-Ok.received) in
     let m = memory a.svids.now a.modes.now a.identity.now a.run.now a.held_svids.now a.held_modes.now a.held_identity.now a.held_run.now a.entered.now in
     let long = sym c.short_runs.ensures ∙ c.if-short_runs.false in
-    let e = results _ _ (heard_request a.laptop m long a.bytes.now read _ _ _ c.in-Ok.ensures refl c.if-head-eq-REQ.true) in
+    let e = results _ _ (heard_request a.laptop m long a.bytes.now read _ _ _ (ap as_shown (sym c.in-Ok.is) ∙ c.read-read.ensures) refl c.if-head-eq-REQ.true) in
     (c.hear_request.ensures ∙ e.0, e.1)
 
 pub returns-then-not-fits : goal.returns-then-not-fits
@@ -42,14 +43,14 @@ returns-then-not-fits c =
     let m = memory a.svids.now a.modes.now a.identity.now a.run.now a.held_svids.now a.held_modes.now a.held_identity.now a.held_run.now a.entered.now in
     let long = sym c.short_runs.ensures ∙ c.if-short_runs.false in
     let other = (sym c.fits.ensures ∙ c.if-not-fits.true) in
-    let e = results _ _ (heard_unawaited a.laptop m long a.bytes.now read _ _ _ c.in-Ok.ensures refl c.if-head-eq-REQ.false other) in
+    let e = results _ _ (heard_unawaited a.laptop m long a.bytes.now read _ _ _ (ap as_shown (sym c.in-Ok.is) ∙ c.read-read.ensures) refl c.if-head-eq-REQ.false other) in
     (c.hear_unawaited.ensures ∙ e.0, e.1)
 
 pub hear_answer-requires : goal.hear_answer-requires
 hear_answer-requires c =
     let a = c.args in
     let read = as_shown (Ok c.in-Ok.received) in
-    (count_few a.bytes.now read _ _ _ c.in-Ok.ensures refl, words_padded a.bytes.now read _ _ _ c.in-Ok.ensures refl)
+    (count_few a.bytes.now read _ _ _ (ap as_shown (sym c.in-Ok.is) ∙ c.read-read.ensures) refl, words_padded a.bytes.now read _ _ _ (ap as_shown (sym c.in-Ok.is) ∙ c.read-read.ensures) refl)
 
 pub returns : goal.returns
 returns c =
@@ -58,4 +59,4 @@ returns c =
     let m = memory a.svids.now a.modes.now a.identity.now a.run.now a.held_svids.now a.held_modes.now a.held_identity.now a.held_run.now a.entered.now in
     let long = sym c.short_runs.ensures ∙ c.if-short_runs.false in
     let awaited = (sym c.fits.ensures ∙ c.if-not-fits.false) in
-    results _ _ (heard_answer a.laptop m long a.bytes.now read _ _ _ c.in-Ok.ensures refl c.if-head-eq-REQ.false awaited ∙ sym c.hear_answer.ensures)
+    results _ _ (heard_answer a.laptop m long a.bytes.now read _ _ _ (ap as_shown (sym c.in-Ok.is) ∙ c.read-read.ensures) refl c.if-head-eq-REQ.false awaited ∙ sym c.hear_answer.ensures)

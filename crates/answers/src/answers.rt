@@ -83,6 +83,7 @@ pub fn hear_modes(
     }
 }
 
+// No `put_word`: what it writes depends on what stands there.
 #[tactic(auto, using(crate::proofs::Storing::put_steps), unfolding(laptop::specs::Marks::marked_by))]
 fn put_mark(entered: &mut [u8], place: usize, command: u8, position: u8)
     ensures { entered.new ≡ set entered.old place (marked_by command position (get_or entered.old place 0)) }

@@ -2,10 +2,12 @@
 ghost use Rattle.std.specs.Prelude.{◌≡◌, ◌+◌, ◌≤◌, length};
 ghost use Rattle.catalogue.specs.Records.{low_first, word_number, words_bytes, Put};
 
+// The whole buffer is lent with a place in it, since the clauses say what becomes of the whole.
 pub(crate) const MODE_SIZE: usize = 5;
 
 pub(crate) const OBJECT_SIZE: usize = 4;
 
+// As SVID_KIND, a number that is written and met in one place.
 const MODE_KIND: u64 = 0x20;
 
 // A number of so many bytes, the low byte first.
@@ -20,6 +22,7 @@ pub(crate) fn put_number(out: &mut [u8], at: usize, number: u64, size: usize) ->
 }
 
 // A mode's kind stands before its word.
+// Its size says which it is, so it is no conversion.
 fn word_number(word: u32, size: usize) -> u64
     ensures { result ≡ word_number size word }
 {

@@ -12,6 +12,7 @@ pub const FRONT: usize = 2426;
 // The bytes that were read, fewer than there is room for only where the input ended.
 fn read_front<'a, R: Read>(reader: &mut R, front: &'a mut [u8]) -> Result<&'a [u8], Error> {
     let mut end = 0;
+    // A read may bring any number of bytes, and no method without a heap tells a failure from the end.
     while end < front.len() {
         let more = reader.read(&mut front[end..])?;
         if more == 0 {

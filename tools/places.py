@@ -174,7 +174,7 @@ CHANGED = {
         laptop_events/event: take_lengths laptop_events/main: answer_stream loading/list: objects_from svids_from
         mending/keeping: put_kept pages/lib: value_at pages/list: is_in reading/lib: objects_in
         rebuilding/words: object_of objects_in word_at streams/input: fill_halves fill_words taking/lib: before
-        owner/lib: discover writing/lib: put_objects
+        owner/lib: discover writing/lib: put_objects answers/answers: put_words
     """,
     "3 a library's method written out, without a loop": """
         driving/owning: lent files/input: is_dash gathering/gathering: counted laptop/marks: report

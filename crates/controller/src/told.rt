@@ -11,7 +11,7 @@ use crate::numbers::side_number;
 use crate::port_writing::put_port;
 use laptop::{Notice, Told};
 use messages::{ATTENTION, Request};
-use port::{Accepted, Refused};
+use port::{Accepted, Port, Refused};
 
 fn request_numbers(length: u8, tag: u32, request: Request, side: u8) -> [u32; 8]
     ensures { result ≡ request_numbers length tag request side }
@@ -56,7 +56,18 @@ fn told_numbers(length: u8, told: Told, side: u8) -> [u32; 8]
     }
 }
 
+fn port_in(given: Result<Accepted, Refused>) -> Port
+    ensures { result ≡ (stepped given).port }
+{
+    match given {
+        Ok(accepted) => accepted.port,
+        Err(refused) => refused.port,
+    }
+}
+
 // The new state is written back, on acceptance what is handed over too; gives the refusal number.
+// A part of its callers, and the state is written at one place: else it costs them two more ports on the stack.
+#[inline(always)]
 pub(crate) fn hand_over(
     given: Result<Accepted, Refused>,
     state: &mut [u16; 22],
@@ -66,15 +77,12 @@ pub(crate) fn hand_over(
         × (state.new ≡ numbers_after state.old (stepped given).port)
         × (handed.new ≡ accepted result (handed_numbers (stepped given)) handed.old) }
 {
+    put_port(port_in(given), state);
     match given {
         Ok(accepted) => {
-            put_port(accepted.port, state);
             *handed = told_numbers(accepted.length, accepted.told, side_number(accepted.side));
             0
         }
-        Err(refused) => {
-            put_port(refused.port, state);
-            u8::from(refused.refusal)
-        }
+        Err(refused) => u8::from(refused.refusal),
     }
 }

@@ -5,8 +5,8 @@ use driving::digest::of_words;
 use driving::fields::{
     add_awaited, add_candidate, add_held, add_outcome, add_part, add_request, add_side, begin_line,
 };
-use driving::memory::Memory;
 use driving::line::Line;
+use driving::memory::Memory;
 use driving::owning::{Owner, other};
 use laptop::{Laptop, Notice, Told};
 use messages::Request;

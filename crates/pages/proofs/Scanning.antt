@@ -60,4 +60,3 @@ sound_no_zero (s ∷ list) e zero h z =
 sound_no_zero (s ∷ list) e (suc k) h z =
     sound_no_zero list (and_right (not (is_in s list)) (sound_list list) (and_right (not (eqb s 0)) (not (is_in s list) && sound_list list) e)) k
     (omega arith) z
-

@@ -25,6 +25,7 @@ fn owners_refusal(port: Port, run: &[u32], held_run: &[u32]) -> Result<(), Refus
 }
 
 // The laptop of which the owner asks something; else why it may not, and nothing changes, on either side.
+#[inline(always)]
 fn owners_laptop(port: Port, side: Side, run: &[u32], held_run: &[u32]) -> Result<Laptop, Refused>
     ensures { OwnersLaptop side port (length run.now) (length held_run.now) result }
 {

@@ -11,7 +11,7 @@ use Rattle.records.proofs.Finding.{at_past, at_within}
 use Rattle.records.proofs.record_at.Goals as goal
 
 pub returns-in_err-ok_or : goal.returns-in_err-ok_or
-returns-in_err-ok_or c = 
+returns-in_err-ok_or c =
     let cut : c.from_residual.result ≡ Err Cut = grind (arith, common_steps) in
     let past : length c.args.bytes.now < c.args.at = grind (arith, common_steps) in
     rw cut (sym (at_past c.args.bytes.now c.args.at past))

@@ -81,7 +81,8 @@ BY_READING = {
         link_events/event: take_laptop_call laptop_events/report: with_laptop link_events/report: with_laptop
         with_catalogue cases/report: with_catalogue dock_events/event: take_svids take_objects take_bytes
         catalogue_files/read_record: answer link_events/system: end_at with_side laptop_events/answering:
-        output_for port/sides: own_of put_back text/line: append_half append_word
+        output_for port/sides: own_of put_back text/line: append_half append_word laptop_events/event: take_half
+        controller/told: port_in
     """,
     "3 a library's method written out, without a loop": """
         laptop/places: number_at modes_number pages/lib: value_at loading/list: object_or_zero
@@ -199,9 +200,6 @@ CHANGED = {
     """,
     "5 other parameters that always travel together": """
         catalogue/entries: entries_length modes_at put_entries hearing/awaited: gather hear_answer
-    """,
-    "6 a struct with a buffer and its length": """
-        driving/memory: Memory
     """,
     "6 a position beside a buffer, parallel arrays": """
         catalogue/entries: modes_at laptop/places: place_of

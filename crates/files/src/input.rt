@@ -13,7 +13,6 @@ pub const FRONT: usize = 2426;
 // so no `for` knows its steps.
 fn read_front<'a, R: Read>(reader: &mut R, front: &'a mut [u8]) -> Result<&'a [u8], Error> {
     let mut end = 0;
-    // A read may bring any number of bytes, and no method without a heap tells a failure from the end.
     while end < front.len() {
         let more = reader.read(&mut front[end..])?;
         if more == 0 {

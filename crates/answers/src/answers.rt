@@ -23,6 +23,7 @@ fn stored_to(stored: u8, laptop: Laptop) -> Laptop
 }
 
 // A word past the end of the run is left out.
+// A test, as in `put_word` of rebuilding, where get_mut was tried.
 #[tactic(auto, using(crate::proofs::Storing::put_steps))]
 fn put_word(run: &mut [u32], place: usize, word: u32)
     ensures { run.new ≡ set run.old place word }

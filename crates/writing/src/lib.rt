@@ -24,6 +24,7 @@ fn version_of(edition: Edition) -> u32
 }
 
 // The first object: the version, and what the head says.
+// It is made of two values, so no From.
 fn header_of(edition: Edition, head: Head) -> u32
     requires { (head.command < 32) × (head.kind < 4) × (head.position < 8) }
     ensures { result ≡ header_of edition head }

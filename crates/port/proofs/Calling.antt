@@ -11,7 +11,7 @@ use Rattle.laptop.specs.Step.{Step as LaptopAsStep}
 use Rattle.laptop.specs.State.{LentMemory}
 use Rattle.std.specs.Prelude.{Ok, Err}
 use Rattle.messages.specs.Refusals.{number_of}
-use Rattle.messages.proofs.Refusals.{numbered}
+use Rattle.messages.proofs.Numbers.{numbered}
 use Rattle.laptop.specs.declared.Told.TheVariants.{Nothing}
 use Rattle.port.specs.declared.Refused.{Refused}
 use Rattle.port.proofs.Seeing.{put_seen}

@@ -2,7 +2,6 @@
 ghost use Rattle.std.specs.Prelude.{◌≡◌, ◌+◌, ◌≤◌, length};
 ghost use Rattle.catalogue.specs.Records.{low_first, word_number, words_bytes, Put};
 
-// The whole buffer is lent with a place in it, since the clauses say what becomes of the whole.
 pub(crate) const MODE_SIZE: usize = 5;
 
 pub(crate) const OBJECT_SIZE: usize = 4;
@@ -11,6 +10,7 @@ pub(crate) const OBJECT_SIZE: usize = 4;
 const MODE_KIND: u64 = 0x20;
 
 // A number of so many bytes, the low byte first.
+// The whole buffer is lent with a place in it, since the clauses say what becomes of the whole.
 pub(crate) fn put_number(out: &mut [u8], at: usize, number: u64, size: usize) -> usize
     requires few { size ≤ 8 }
     requires room { at + size ≤ length out.old }

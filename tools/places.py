@@ -4,7 +4,9 @@
 usage: python3 tools/places.py [COMMIT]      at the top; without COMMIT it reads the files as they lie there
 
 A place is a type, a function or a constant of crates/*/src/*.rt, so a function may stand under several points.
-What no pattern finds stands in BY_READING as `crate/file: names`; a name that is gone is no place any more.
+What no pattern finds stands in BY_READING as `crate/file: names`; a name that is gone is no place any more. What has
+today's form and kept its name, or is found by a pattern though it never had the form, stands in CHANGED, which is left
+out where the files are read as they lie there.
 """
 
 import collections
@@ -28,7 +30,7 @@ TAKES = re.compile(r"refus|fault|ending|offset|is_good|written|arrived|answer")
 REFUSALS = set(
     "OUT_OF_ORDER BYTES_AFTER_END NO_IDENTITY SHORT SHORT_RUN UNKNOWN_KIND CUT_RECORD NOT_LISTED UNREAD".split()
 )
-NO_KIND = re.compile(r"MOST|ROOM|OBJECT|PER_PAGE|EVENTS|UNWRITTEN|COMMANDS|TYPES|FIRST_OUTPUT|LONGEST")
+NO_KIND = re.compile(r"BUDGET|MOST|ROOM|OBJECT|PER_PAGE|EVENTS|UNWRITTEN|COMMANDS|TYPES|FIRST_OUTPUT|LONGEST")
 KIND = re.compile(r"\b(kind|command|policy|side|edition): u8")
 MEMORY = set("svids modes identity run held_svids held_modes held_identity held_run entered out".split())
 NO_CONVERSION = re.compile("append|with|read|modes|pairs|svids|objects")
@@ -79,7 +81,8 @@ BY_READING = {
         link_events/event: take_laptop_call laptop_events/report: with_laptop link_events/report: with_laptop
         with_catalogue cases/report: with_catalogue dock_events/event: take_svids take_objects take_bytes
         catalogue_files/read_record: answer link_events/system: end_at with_side laptop_events/answering:
-        output_for port/sides: own_of put_back text/line: append_half append_word
+        output_for port/sides: own_of put_back text/line: append_half append_word laptop_events/event: take_half
+        controller/told: port_in
     """,
     "3 a library's method written out, without a loop": """
         laptop/places: number_at modes_number pages/lib: value_at loading/list: object_or_zero
@@ -145,6 +148,68 @@ BY_READING = {
         events/kinds: is_message names_mode says_side is_partners records/lib: is_identity hearing/awaited:
         brings_part modes/lib: has_mode timers/lib: timer loading/lib: good_data answering/lib: give_identity
         give_modes reading/lib: read receiving/lib: receive
+    """,
+}
+
+CHANGED = {
+    "1 a bool that stands for success": """
+        streams/input: fill fill_halves fill_words linking/start: read_modes mend/saving: write_or_remove make
+        give_name save mend/mending_file: save_as
+    """,
+    "1 a flag or number beside a value": """
+        linking/start: Start linking/link: Answer
+    """,
+    "1 a function that takes a refusal as a number": """
+        cases/dock_cases: print_answer
+    """,
+    "1 a number that stands for no value": """
+        files/argument: argument
+    """,
+    "2 functions of one skeleton": """
+        controller/port_writing: candidate_number writing/lib: version_of port/waiting: response_timer entry_timer
+        exit_timer protocol_error
+    """,
+    "2 twins, by reading": """
+        catalogue/numbers: put_words catalogue_files/read_file: answer catalogue_files/read_record: answer
+        driving/digest: of_bytes driving/owning: lent gathering/gathering: put_values laptop/places: place_of
+        laptop_events/event: take_lengths laptop_events/main: answer_stream loading/list: objects_from svids_from
+        mending/keeping: put_kept pages/lib: value_at pages/list: is_in reading/lib: objects_in
+        rebuilding/words: object_of objects_in word_at streams/input: fill_halves fill_words taking/lib: before
+        owner/lib: discover writing/lib: put_objects answers/answers: put_words
+    """,
+    "3 a library's method written out, without a loop": """
+        driving/owning: lent files/input: is_dash gathering/gathering: counted laptop/marks: report
+        laptop/places: modes_number pages/lib: value_at pages/list: first_svids rebuilding/words: object_of word_at
+        show/argument: without_prefix text/line: print_line
+    """,
+    "3 an unrolled list": """
+        gathering/gathering: values_of
+    """,
+    "4 a conversion": """
+        catalogue/numbers: put_number gathering/gathering: values_of messages/object: bytes_of
+        messages/edition: try_from catalogue_files/file: add_numbers
+    """,
+    "4 copying field by field": """
+        driving/owning: make
+    """,
+    "4 equality": """
+        controller/port_same: same_own same_wait messages/request: same_request taking/lib: same
+    """,
+    "4 printing": """
+        cases/reading_case: print_reading vectors/read_vector: print_answer vectors/write_vector: print_answer
+    """,
+    "5 other parameters that always travel together": """
+        catalogue/entries: entries_length modes_at put_entries hearing/awaited: gather hear_answer
+    """,
+    "6 a position beside a buffer, parallel arrays": """
+        catalogue/entries: modes_at laptop/places: place_of
+    """,
+    "7 one frame around several steps": """
+        laptop_events/main: answer_stream port/owners: next start_over drop enter exit port/waiting: response_timer
+        entry_timer exit_timer protocol_error
+    """,
+    "beside: a range tested by hand": """
+        events/kinds: is_message names_mode says_side is_partners modes/lib: has_mode timers/lib: timer
     """,
 }
 
@@ -255,7 +320,9 @@ def places(all_items):
             yield "4 equality with a variant, by match", i
         if re.search(r"_(from|numbers?)$", i.name) and "bytes" not in named and not NO_CONVERSION.match(i.name):
             yield "4 a conversion", i
-        prints = re.match(r"(append|with)_.*-> (Line|usize)|print_|write_turn", i.head[i.head.index(i.name):])
+        prints = re.match(
+            r"(append|with)_.*-> (Line|usize)|add_.*&mut (line::)?Line|print_|write_turn", i.head[i.head.index(i.name):]
+        )
         if prints and re.search(r"\bmatch |let \w+::", i.body):
             yield "4 printing", i
         if re.search(r"let (\w+) = [\w.]+\.\1;", i.body):
@@ -297,17 +364,25 @@ def places(all_items):
             yield "5 a fact in three or more contracts", Item(f"{number} contracts:", "", fact, "", "", "")
 
 
+def listed(lists, all_items):
+    """The items that the lists name, each with its point."""
+    for point, names in lists.items():
+        for crate, file, rest in re.findall(r"(\w+)/(\w+):((?: +\w+(?![/:\w]))+)", " ".join(names.split())):
+            for i in all_items:
+                if i.place.startswith(f"{crate}/src/{file}.rt:") and i.name in rest.split():
+                    yield point, i
+
+
 def main():
     texts = sources(sys.argv[1] if len(sys.argv) > 1 else None)
     all_items = [i for p, t in texts.items() if p.endswith(".rt") and "/src/" in p for i in items(p, t)]
     found = collections.defaultdict(dict)
     for point, i in places(all_items):
         found[point][i.place, i.name] = None
-    for point, names in BY_READING.items():
-        for crate, file, rest in re.findall(r"(\w+)/(\w+):((?: +\w+(?![/:\w]))+)", " ".join(names.split())):
-            for i in all_items:
-                if i.place.startswith(f"{crate}/src/{file}.rt:") and i.name in rest.split():
-                    found[point][i.place, i.name] = None
+    for point, i in listed(BY_READING, all_items):
+        found[point][i.place, i.name] = None
+    for point, i in listed(CHANGED, all_items) if len(sys.argv) == 1 else []:
+        found[point].pop((i.place, i.name), None)
     for point in sorted(found):
         print(f"\n{point}: {len(found[point])}")
         for place, name in sorted(found[point]):

@@ -85,6 +85,7 @@ fn decline(
 }
 
 // Policy's answer to the request that it names: refused 9 if it names another or none is waiting, then 10, then 11.
+// A match and no closure: each arm takes another part of what is lent.
 pub fn policy_answer(
     dock: Dock,
     policy: Policy,

@@ -23,6 +23,7 @@ fn stored_to(stored: u8, laptop: Laptop) -> Laptop
 }
 
 // A word past the end of the run is left out.
+// A test, as in `put_word` of rebuilding, where get_mut was tried.
 #[tactic(auto, using(crate::proofs::Storing::put_steps))]
 fn put_word(run: &mut [u32], place: usize, word: u32)
     ensures { run.new ≡ set run.old place word }
@@ -83,6 +84,7 @@ pub fn hear_modes(
     }
 }
 
+// No `put_word`: what it writes depends on what stands there.
 #[tactic(auto, using(crate::proofs::Storing::put_steps), unfolding(laptop::specs::Marks::marked_by))]
 fn put_mark(entered: &mut [u8], place: usize, command: u8, position: u8)
     ensures { entered.new ≡ set entered.old place (marked_by command position (get_or entered.old place 0)) }

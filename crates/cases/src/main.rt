@@ -17,6 +17,7 @@ use laptop_cases::{print_bad_page, print_case_l};
 use reading_case::print_reading;
 
 fn main() {
+    // The numbers of 01's cases, and of the SVIDs of each.
     print_answers(1, 0);
     print_answers(2, 3);
     print_answers(3, 4);

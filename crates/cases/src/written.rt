@@ -7,6 +7,7 @@ pub const LONGEST: usize = 28;
 const OBJECT: usize = 4;
 
 // The message is the first bytes, so many as its length says.
+// `first` takes any length, so nothing has to hold of this one.
 #[derive(Clone, Copy)]
 pub struct Message {
     bytes: [u8; LONGEST],
@@ -18,6 +19,7 @@ impl Message {
         Message { bytes, length }
     }
 
+    // Nothing is a message of no bytes, and no Option: an end that hears it refuses it as any other.
     pub fn nothing() -> Message {
         Message::new([0; LONGEST], 0)
     }

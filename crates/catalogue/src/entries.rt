@@ -9,6 +9,7 @@ use crate::numbers::{MODE_SIZE, put_number, put_words};
 use crate::parts::Parts;
 use laptop::{MODES_EACH, modes_number};
 
+// A part of the number that is written, and met here alone: an enum would be turned into it at once.
 const SVID_KIND: u64 = 0x10;
 
 fn put_entry(out: &mut [u8], at: usize, svid: u16, words: &[u32]) -> usize

@@ -16,6 +16,7 @@ use messages::{Refusal, first};
 use numbers::{OBJECT_SIZE, put_number, put_words};
 use parts::Parts;
 
+// As SVID_KIND, a number that is written and met in one place.
 const END_KIND: u64 = 0x00;
 
 const LEAST_OBJECTS: usize = 3;
@@ -54,6 +55,7 @@ fn fitting(extent: usize, bytes: usize, room: usize) -> Result<(), Refusal>
 }
 
 // Writes the held catalogue, and gives how many bytes: refused 11 for a short run, then 12, then 11 for a short buffer.
+// Each array goes by itself, as C lends them; `Parts` holds them from here on.
 pub fn write_catalogue(
     laptop: Laptop,
     held_svids: &[u16; 72],

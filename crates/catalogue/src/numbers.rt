@@ -6,9 +6,11 @@ pub(crate) const MODE_SIZE: usize = 5;
 
 pub(crate) const OBJECT_SIZE: usize = 4;
 
+// As SVID_KIND, a number that is written and met in one place.
 const MODE_KIND: u64 = 0x20;
 
 // A number of so many bytes, the low byte first.
+// The whole buffer is lent with a place in it, since the clauses say what becomes of the whole.
 pub(crate) fn put_number(out: &mut [u8], at: usize, number: u64, size: usize) -> usize
     requires few { size ≤ 8 }
     requires room { at + size ≤ length out.old }
@@ -20,6 +22,7 @@ pub(crate) fn put_number(out: &mut [u8], at: usize, number: u64, size: usize) ->
 }
 
 // A mode's kind stands before its word.
+// Its size says which it is, so it is no conversion.
 fn word_number(word: u32, size: usize) -> u64
     ensures { result ≡ word_number size word }
 {

@@ -15,6 +15,7 @@ const READ: u8 = 0x01;
 
 const RECORD: u8 = 0x02;
 
+// As in vectors but for both steps: a shared function would take the two as closures and say no less.
 fn answer_next(number: u64) -> Result<(), Stop> {
     match read_byte().ok_or(Stop::Ended)? {
         READ => read_file::answer(number),

@@ -10,6 +10,7 @@ use messages::{Refusal, first};
 use pages::is_last;
 
 // A page that does not end the list moves on to the next; the last stays until the next Identity.
+// The bool is that of Standing.
 fn move_on(paged: bool, dock: Dock) -> Dock
     ensures { result ≡ moved paged dock }
 {

@@ -51,6 +51,7 @@ fn standing_numbers(standing: Standing) -> [u16; 4]
     }
 }
 
+// One by one, in the order of the C interface.
 pub(crate) fn dock_numbers(dock: Dock) -> [u16; 8]
     ensures { result ≡ dock_numbers dock }
 {

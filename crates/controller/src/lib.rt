@@ -5,6 +5,7 @@
 // A state is lent as numbers, and so is what a call hands over. Any numbers are taken; `specs/` says what an ill-formed one counts as. Each call turns
 // the numbers into the state, makes the call, writes the new state back and gives the refusal number. A refusal changes no lent number, unless
 // it changes the laptop's state.
+// The numbers, also those for refusals, kinds and sides, and the arrays one by one, are the C interface.
 mod catalogue_call;
 mod catalogue_mending;
 mod catalogue_reading;

@@ -10,6 +10,7 @@ pub use replying::{send, send_bare, spoken_at, standing_at};
 pub use unloaded::fresh;
 
 // Where the dock stands: asking policy for one request, or sending an answer (true: a page of its list).
+// Of an answer nothing else is known, so a bool: an enum would say true and false by other names.
 #[derive(Clone, Copy, PartialEq, Eq)]
 pub enum Standing {
     Ready,

@@ -14,6 +14,7 @@ pub fn of_bytes(bytes: &[u8]) -> u32 {
 }
 
 // Of the halves' bytes, low byte first.
+// One function of both was tried: the borrow checker does not cover a Fn bound that names a const parameter.
 pub fn of_halves(halves: &[u16]) -> u32 {
     halves.iter().fold(OFFSET, |digest, half| of_more(digest, &half.to_le_bytes()))
 }

@@ -1,5 +1,6 @@
 // What a line says of its event and of a side's laptop. Each field but the first has a space before it, and is `-`
 // where there is nothing to tell.
+// No Display: an impl would have to stand in the crate of the type, firmware that knows no words of programs.
 use crate::line::Line;
 use laptop::{Candidate, Laptop, Size};
 use messages::{Refusal, Request};

@@ -5,6 +5,7 @@ ghost use Rattle.std.specs.Prelude.{◌≡◌, ◌≤◌, replicate};
 pub const RUN: usize = 440;
 
 // What the calls for a side are lent; the names are those of the laptop's `Memory`. Of the runs so many words are lent.
+// Each array stands by itself, as the port's calls are lent it.
 #[derive(Clone, Copy)]
 pub struct Memory {
     pub svids: [u16; 72],

@@ -95,6 +95,7 @@ impl Owner {
     }
 }
 
+// The other of the two, and no conversion.
 pub fn other(side: Side) -> Side {
     match side {
         Side::Partner => Side::Cable,

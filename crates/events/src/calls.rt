@@ -17,6 +17,7 @@ fn mode_in(bytes: &[u8]) -> Mode
 }
 
 // Of a partner's kind, which is known and no message's: what is left is the protocol error.
+// It is made of a kind and a body, so no From.
 #[tactic(auto, unfolding(crate::specs::Events::call_of, crate::specs::Events::partners_length, crate::specs::Events::is_message, crate::specs::Events::names_mode))]
 pub(crate) fn call_of(kind: u8, bytes: &[u8]) -> Call
     requires { 1 + partners_length kind ≤ length bytes.now }

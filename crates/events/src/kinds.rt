@@ -4,6 +4,7 @@ ghost use Rattle.events.specs.Events.{is_message, names_mode, says_side, is_part
 
 use port::Side;
 
+// Any byte may come off the input, and each of these is met in one pattern: `Call` is their enum.
 const MOST_OBJECTS: u8 = 7;
 
 const OBJECT_BYTES: usize = 4;
@@ -64,6 +65,7 @@ fn is_partners(kind: u8) -> bool
     says_side(kind) || matches!(kind, RESPONSE_TIMER..=PROTOCOL_ERROR)
 }
 
+// No From: an impl would have to stand in `port`, which knows no kinds.
 #[tactic(auto, unfolding(crate::specs::Events::side_of))]
 pub fn side_of(kind: u8) -> Side
     ensures { result ≡ side_of kind }

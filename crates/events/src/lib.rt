@@ -14,6 +14,7 @@ use kinds::{is_known, is_message};
 use port::Side;
 
 // What *enter* and *exit* name.
+// As a Request but for the command, which the call itself says.
 #[derive(Clone, Copy)]
 pub struct Mode {
     pub svid: u16,

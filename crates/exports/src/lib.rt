@@ -17,6 +17,7 @@ pub fn exports_read(bytes: &[u8], into: &mut [u32; 12]) -> u8
         Ok(received) => {
             let head = received.head;
             let objects = received.objects;
+            // One store: two copies by copy_from_slice were tried, and took 21 ns for a message against 14.
             *into = [
                 u32::from(u8::from(received.edition)),
                 u32::from(head.svid),

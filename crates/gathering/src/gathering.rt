@@ -31,6 +31,7 @@ fn opened(extent: u8, edition: Edition, laptop: Laptop) -> Laptop
 
 // An ACK opens an empty list, and the lower of its edition and ours is used from now on; NAK or BUSY leaves no
 // candidate.
+// It takes the parts of the message that its definition names, and no whole one; so do hear_svids and hear_modes.
 #[tactic(auto, unfolding(crate::specs::Gathering::hear_identity))]
 pub fn hear_identity(
     laptop: Laptop,

@@ -23,6 +23,7 @@ fn notice_of(head: Head, count: u8, object: u32) -> Notice
 }
 
 // A request: Attention goes to policy at any time, any other is 6.
+// It takes the parts of the message that its definition names.
 #[tactic(auto, unfolding(crate::specs::Hearing::hear_request))]
 fn hear_request(laptop: Laptop, head: Head, count: u8, object: u32) -> Result<Accepted, Refused>
     ensures { stepped result ≡ hear_request laptop head count object }

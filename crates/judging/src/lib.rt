@@ -46,6 +46,7 @@ impl Walk {
         requires { (self.old ≡ front) × (svids.old ≡ noted []) × (numbers.old ≡ noted []) }
         ensures { FileJudged bytes.now (record { refusal = number_in result; walk = self.new }) svids.new numbers.new }
     {
+        // Each record says how far the next one is, so no range or iterator gives the places.
         while self.at < bytes.len() {
             let whole = record_from(bytes, self.at)?;
             if !self.may_follow(svids, whole.record) {
@@ -62,6 +63,7 @@ impl Walk {
 
 // The walk from the front, and where it stands behind the end. The SVIDs that it passes, and the number of modes of
 // each, are noted in the arrays that are lent.
+// Each array goes by itself, since that is how callers keep them, C at last.
 pub fn judge(bytes: &[u8], svids: &mut [u16; 72], numbers: &mut [u8; 72]) -> Result<Walk, Stopped>
     ensures { FileJudged bytes.now (judged_as result) svids.new numbers.new }
 {

@@ -8,6 +8,7 @@ use pages::{MOST_SVIDS, is_in};
 use records::Record;
 
 // The offset, the number of identity objects (0 before the identity), of SVIDs, of the modes of the last of them, and of all modes.
+// No ghost bounds: those are fields of the record too, and theorems make walks of any catalogue.
 #[derive(Clone, Copy)]
 pub struct Walk {
     pub at: usize,

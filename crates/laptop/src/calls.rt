@@ -65,6 +65,7 @@ pub fn dropped(laptop: Laptop) -> Laptop
     }
 }
 
+// The runs stay two parameters: any lengths may be lent, so a struct of them would have no invariant.
 #[tactic(auto, unfolding(crate::specs::Calls::short_runs))]
 pub fn short_runs(run: &[u32], held_run: &[u32]) -> bool
     ensures { result ≡ short_runs (length run.now) (length held_run.now) }

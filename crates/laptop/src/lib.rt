@@ -24,6 +24,7 @@ pub enum Candidate {
 }
 
 // How many identity objects (the extent) and SVIDs (the count) a catalogue has.
+// The arrays are lent by themselves, as C lends them.
 #[derive(Clone, Copy, PartialEq, Eq)]
 pub struct Size {
     pub extent: u8,
@@ -53,6 +54,7 @@ pub struct Notice {
 }
 
 // What policy is told: an Attention, or what ended the wait of an enter or exit that came to nothing.
+// Nothing is one of six things told, as 0 is of the numbers in C: an Option of five would be no plainer.
 #[derive(Clone, Copy)]
 pub enum Told {
     Nothing,

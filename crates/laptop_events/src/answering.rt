@@ -18,6 +18,7 @@ const UNWRITTEN: u8 = 0xEE;
 const UNWRITTEN_WORD: u32 = 0xEEEEEEEE;
 
 // What stays from event to event: the owner, and the length of the output buffer that it lends to each side's calls.
+// The two lengths are two fields: two arms of a match choose one.
 #[derive(Clone, Copy)]
 pub struct State {
     pub owner: Owner,

@@ -8,6 +8,7 @@ use streams::input::{fill, read_byte, read_bytes};
 
 // The partner's kinds of event. From FIRST_CALL to LAST_CALL they are those of the watcher. All but the timers and the protocol error say a side: the
 // cable's are the same with their side added.
+// Any byte may come, and each is met in one pattern: `Event` is their enum.
 const MESSAGE: u8 = 0x01;
 
 const FIRST_CALL: u8 = 0x40;

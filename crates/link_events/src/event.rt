@@ -7,6 +7,7 @@ use streams::input::read_byte;
 
 // The partner's kinds of event. The laptop's calls have those of the watcher. All but the timer and the protocol error say a side: the cable's are the same
 // with their side added.
+// Any byte may come, and each is met in one pattern: `Event` is their enum.
 const NEXT: u8 = 0x40;
 
 const DROP: u8 = 0x42;

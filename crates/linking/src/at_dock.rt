@@ -36,6 +36,7 @@ impl FarEnd {
     }
 
     // Policy gives what the request asks for, or is busy.
+    // No Policy is passed: what is to be given may lack, and then policy is busy too.
     fn answer(&mut self, is_given: bool) {
         let Standing::Asking(request) = self.dock.standing else {
             return self.permit(false);

@@ -32,6 +32,7 @@ pub enum Heard {
 }
 
 // The answer is the first `length` of the bytes, and counted once the laptop has counted it as a page.
+// `first` takes any length, so nothing has to hold of this one.
 #[derive(Clone, Copy)]
 pub struct Answer {
     pub bytes: [u8; ANSWER],

@@ -6,6 +6,7 @@ use messages::first;
 use streams::finish::Stop;
 use streams::input::{fill_words, read_byte};
 
+// `first` takes any count, so nothing has to hold of this one.
 #[derive(Clone, Copy)]
 pub struct Objects {
     pub words: [u32; MODES_EACH],

@@ -7,6 +7,7 @@ ghost use Rattle.mending.specs.Keeping.{svids_kept, kept_by_of};
 use judging::Walk;
 use records::{MODE_RECORD, OBJECT_BYTES, SVID_RECORD};
 
+// A byte that is written, and met in one place.
 const END_KIND: u8 = 0x00;
 
 // The kinds of the identity and of the end, a byte each.

@@ -17,6 +17,7 @@ pub use request::{Request, head_for, same_request};
 pub use table::shape;
 
 // What a VDM header says, its edition left out: nothing that is compared looks at that. 01's types are numbers here: REQ, ACK, NAK, BUSY.
+// They and the commands stay numbers: any may come off the wire, and `shape` says of each number what it is.
 #[derive(Clone, Copy)]
 pub struct Head {
     pub svid: u16,
@@ -48,6 +49,7 @@ pub const EXIT: u8 = 5;
 pub const ATTENTION: u8 = 6;
 
 // A message that was read: its edition, its head, and the number of objects after the header, which stand first among the six words, with zeros behind them.
+// All six words are told, as `shown` defines it.
 #[derive(Clone, Copy)]
 pub struct Received {
     pub edition: Edition,

@@ -4,6 +4,7 @@ ghost use Rattle.messages.specs.Requests.{request_of, same_request, head_for};
 
 use crate::Head;
 
+// Any command may be named: the dock says NAK to one that there is not.
 #[derive(Clone, Copy, PartialEq, Eq)]
 pub struct Request {
     pub svid: u16,
@@ -30,6 +31,7 @@ pub fn same_request(a: Request, b: Request) -> bool
 }
 
 // The head of the request, or of an answer to it.
+// It is made of two values, so no From.
 pub fn head_for(request: Request, kind: u8) -> Head
     ensures { result ≡ head_for request kind }
 {

@@ -86,6 +86,7 @@ pub fn enter(
     ask(laptop, mode, out)
 }
 
+// As for `enter`, svid and position are C's.
 pub fn exit(
     laptop: Laptop,
     svid: u16,

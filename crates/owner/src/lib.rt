@@ -61,6 +61,7 @@ fn awaiting(request: Request, laptop: Laptop) -> Laptop
 }
 
 // Sends a request at the edition of the laptop that it leaves; a buffer that is too short is refused, and the laptop stays as it was.
+// Not the dock's `send`: the state is another, and a refusal hands it back.
 fn send(
     laptop: Laptop,
     after: Laptop,
@@ -121,6 +122,7 @@ fn ask_identity(laptop: Laptop, out: &mut [u8]) -> Result<Accepted, Refused>
 }
 
 // Asks for what the candidate lacks: at last the modes of its first SVID without any.
+// Each call is lent the arrays that it looks at, as by C: a struct of all arrays would ask for more.
 pub fn next(
     laptop: Laptop,
     svids: &[u16; 72],

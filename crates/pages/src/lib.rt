@@ -10,6 +10,7 @@ pub use list::{first_svids, is_in, sound};
 use messages::item_or;
 
 // A page's objects stand first among the six words, and zeros behind them.
+// All six are told, as `shown_page` defines it.
 #[derive(Clone, Copy)]
 pub struct Page {
     pub objects: [u32; 6],

@@ -28,6 +28,7 @@ pub enum Side {
 }
 
 // What a side has of its own: a `Laptop` but for what is awaited.
+// A Laptop made of an Own would change each definition and theorem of 01 that names a field of it.
 #[derive(Clone, Copy, PartialEq, Eq)]
 pub struct Own {
     pub candidate: Candidate,
@@ -39,6 +40,7 @@ pub struct Own {
 }
 
 // The request whose answer is awaited, with its side.
+// The sides are two fields, which the definitions name: two arms of a match choose one.
 #[derive(Clone, Copy)]
 pub struct Port {
     pub wait: Option<(Side, Request)>,

@@ -11,6 +11,7 @@ use crate::{Accepted, Port, Refused, Side};
 use laptop::{Laptop, short_runs};
 use messages::Refusal;
 
+// No `owner_check`: what either side awaits counts, of a Port.
 fn owners_refusal(port: Port, run: &[u32], held_run: &[u32]) -> Result<(), Refusal>
     ensures { number_in result ≡ owners_refusal port (length run.now) (length held_run.now) }
 {
@@ -39,6 +40,7 @@ fn owners_laptop(port: Port, side: Side, run: &[u32], held_run: &[u32]) -> Resul
 }
 
 // Asks for what the side's candidate lacks.
+// This and the next calls are lent what they look at, as by C: a struct of all arrays would ask for more.
 pub fn next(
     port: Port,
     side: Side,

@@ -53,6 +53,7 @@ fn own_of(side: Side, port: Port) -> Own
     }
 }
 
+// No From: `seen`, the way back, is made of two values, and so the two stay alike.
 pub(crate) fn own_in(laptop: Laptop) -> Own
     ensures { result ≡ own_in laptop }
 {

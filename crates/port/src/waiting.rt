@@ -34,6 +34,7 @@ fn concerning<F: FnOnce(Laptop) -> Result<laptop::Accepted, laptop::Refused>>(
     stepped_on(side, port, call(seen(side, port)))
 }
 
+// A call for each timer, as the C interface has them.
 pub fn response_timer(port: Port) -> Result<Accepted, Refused>
     ensures { stepped result ≡ concerning (λ l. decide_timer 1 3 l l.wait) port }
 {

@@ -13,6 +13,7 @@ use messages::{Edition, Head, Received, Refusal, shape};
 pub use object::object_at;
 use std::array;
 
+// No From: only a whole message's first object is a header.
 fn head_of(header: u32) -> Head
     ensures { result ≡ head_of header }
 {
@@ -25,6 +26,7 @@ fn head_of(header: u32) -> Head
 }
 
 // Major 0 is 1.0 whatever its minor; of major 1 a minor above 1 counts as 1.
+// No TryFrom: a header names an edition by other bits than a number does.
 fn edition_said(header: u32) -> Edition
     ensures { result ≡ edition_said header }
 {

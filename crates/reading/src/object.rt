@@ -10,5 +10,6 @@ pub fn object_at(bytes: &[u8], i: usize) -> u32
         return 0;
     }
     let at = i * 4;
+    // The four bytes by name: first_chunk would give an Option, and None has to be answered though it can't come.
     u32::from_le_bytes([bytes[at], bytes[at + 1], bytes[at + 2], bytes[at + 3]])
 }

@@ -13,6 +13,7 @@ use messages::Refusal;
 use words::{objects_in, put_modes};
 
 // Where the file ends, and how many identity objects, SVIDs and modes there are.
+// A Walk but for the modes of its last SVID, which say nothing of a whole file.
 #[derive(Clone, Copy)]
 pub struct Rebuilt {
     pub at: usize,
@@ -36,6 +37,7 @@ impl From<Walk> for Rebuilt {
 }
 
 // Reads a catalogue's bytes: refused 11 for a short run, then 15 to 18 for the first fault of the file.
+// Each array goes by itself, as C lends them.
 pub fn read_catalogue(
     bytes: &[u8],
     svids: &mut [u16; 72],

@@ -62,6 +62,7 @@ fn put_words(bytes: &[u8], at: usize, number: usize, run: &mut [u32], place: usi
 }
 
 // Puts the modes of each SVID of a sound file at its places of the run.
+// The way over the SVIDs is that of `place_in` in stretches, to another end.
 pub(crate) fn put_modes(bytes: &[u8], walk: Walk, numbers: &[u8; 72], run: &mut [u32])
     requires { (walk.extent ≤ 6) × (walk.count ≤ 72) }
     ensures { (entries : List Entry) → Standing entries bytes.now walk numbers.now →

@@ -14,6 +14,7 @@ pub use reader::{Reader, record_from};
 use reading::object_at;
 
 // The kinds of record; an identity's is the number of its objects.
+// Any byte may come off a file, and each of these is met in one pattern: `Record` is their enum.
 const LEAST_OBJECTS: u8 = 3;
 
 const MOST_OBJECTS: u8 = 6;
@@ -56,6 +57,7 @@ fn is_identity(kind: u8) -> bool
 }
 
 // The kind is an identity's, of that many objects.
+// Here and below the clauses say what the pattern that called has found.
 fn identity_in(bytes: &[u8], kind: u8) -> Result<Whole, Missing>
     requires { (0 < length bytes.now) × (get_or bytes.now 0 0 ≡ kind) × (is_identity kind ≡ true) }
     ensures { as_found result ≡ found_in bytes.now }

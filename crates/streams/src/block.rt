@@ -10,6 +10,7 @@ pub struct Block<const N: usize> {
     start: usize,
     end: usize,
     // Whether the input ended behind these bytes.
+    // The bytes stay when it ends, so it is no Option of them.
     ended: bool,
 }
 

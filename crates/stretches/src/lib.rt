@@ -12,6 +12,7 @@ use messages::Refusal;
 use records::{MODE_RECORD, OBJECT_BYTES, SVID_RECORD};
 
 // Where a stretch begins, and how many bytes it has.
+// C asks for these numbers alone; `Stretch` has the part of the bytes itself.
 #[derive(Clone, Copy)]
 pub struct Place {
     pub at: usize,
@@ -19,6 +20,7 @@ pub struct Place {
 }
 
 // The SVID among those of a sound file, which the walk has noted with their numbers of modes.
+// The way over the SVIDs is that of `put_modes` in rebuilding: a shared one would take what is done there as closures.
 fn place_in(svid: u16, walk: Walk, svids: &[u16; 72], numbers: &[u8; 72]) -> Result<Place, Fault>
     requires { (walk.extent ≤ 6) × (walk.count ≤ 72) }
     ensures { (entries : List Entry) → NotedAs entries walk svids.now numbers.now → place_as result ≡ place_in svid (1 + walk.extent * 4) entries }

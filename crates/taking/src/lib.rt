@@ -8,6 +8,7 @@ ghost use Rattle.taking.specs.Taking.{before as Taking·before};
 use pages::{MOST_SVIDS, PER_PAGE, is_in};
 
 // A page that is bad, that repeats the last one, that adds twelve SVIDs, or that ends the list with so many.
+// Each is a verdict like the others, of which two leave the list open: no Option or Result.
 #[derive(Clone, Copy, PartialEq, Eq)]
 pub enum Verdict {
     Bad,
@@ -41,6 +42,7 @@ fn before(values: &[u16]) -> usize
         .unwrap_or(values.len())
 }
 
+// As `sound` of pages but for the test of each value, which a shared function would take as a closure.
 #[tactic(auto, using(crate::proofs::Judging::new_steps))]
 fn all_new(list: &[u16], values: &[u16]) -> bool
     ensures { result ≡ all_new list.now values.now }
@@ -61,6 +63,7 @@ fn adds_to(list: &[u16], values: &[u16]) -> bool
     list.len() + values.len() <= MOST_SVIDS && all_new(list, values)
 }
 
+// The number of values before a zero goes beside them: counted once, in `judge`, it needs no struct of both.
 #[tactic(auto, unfolding(crate::specs::Taking::is_ending))]
 fn is_ending(values: &[u16], n: usize) -> bool
     requires { n ≡ Taking·before values.now }

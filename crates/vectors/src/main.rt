@@ -21,6 +21,7 @@ const LONGEST: usize = 529;
 // It starts with the vector's number and what the vector asks.
 type Line = line::Line<LONGEST>;
 
+// As in catalogue_files but for both steps: a shared function would take the two as closures and say no less.
 fn answer_next(number: u64) -> Result<(), Stop> {
     match read_byte().ok_or(Stop::Ended)? {
         READ => read_vector::answer(number),

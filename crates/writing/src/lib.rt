@@ -12,6 +12,7 @@ ghost use Rattle.messages.specs.Writing.{Written, WrittenAs};
 use messages::{Edition, Head, Refusal, bytes_of, shape};
 
 // Structured, and the edition's major and minor.
+// Another number than u8::from gives.
 fn version_of(edition: Edition) -> u32
     ensures { result ≡ 32768 + major_of edition * 8192 + minor_of edition * 2048 }
 {
@@ -23,6 +24,7 @@ fn version_of(edition: Edition) -> u32
 }
 
 // The first object: the version, and what the head says.
+// It is made of two values, so no From.
 fn header_of(edition: Edition, head: Head) -> u32
     requires { (head.command < 32) × (head.kind < 4) × (head.position < 8) }
     ensures { result ≡ header_of edition head }
@@ -34,6 +36,7 @@ fn header_of(edition: Edition, head: Head) -> u32
         + (head.command as u32)
 }
 
+// The whole buffer is lent with a place in it, since the clauses say what becomes of the whole.
 fn put_object(out: &mut [u8], at: usize, object: u32)
     requires { at + 4 ≤ length out.old }
     ensures { out.new ≡ sets out.old at (bytes_of_object object) }

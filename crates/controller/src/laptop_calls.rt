@@ -5,14 +5,14 @@ ghost use Rattle.laptop.specs.State.{memory_lent};
 ghost use Rattle.laptop.specs.Step.{stepped};
 ghost use Rattle.port.specs.Sides.{own_of, fresh_port};
 ghost use Rattle.controller.specs.LaptopCalls.{HeardOn, LaptopHears};
-ghost use Rattle.controller.specs.Port.{side_from, port_from, port_numbers, numbers_after};
+ghost use Rattle.controller.specs.Port.{side_from, port_from, port_numbers};
 ghost use Rattle.laws.specs.Lent.{lent};
 
 use crate::numbers::side_from;
 use crate::port_state::port_from;
-use crate::port_writing::{put_port, write_port};
-use crate::told::{port_in, tell};
-use port::{Port, seen, stepped_on};
+use crate::port_writing::write_port;
+use crate::told::hand_over;
+use port::{seen, stepped_on};
 
 // A fresh laptop, on both sides.
 pub fn laptop_fresh(
@@ -22,7 +22,7 @@ pub fn laptop_fresh(
 )
     ensures { (state.new ≡ port_numbers fresh_port) × (partner_entered.new ≡ replicate 72 0) × (cable_entered.new ≡ replicate 72 0) }
 {
-    write_port(port::fresh(partner_entered, cable_entered), state);
+    write_port(&port::fresh(partner_entered, cable_entered), state);
 }
 
 // A function of its own: what it needs on the stack is free when the step is handed over. The port is read anew then, and does not lie there meanwhile.
@@ -56,14 +56,6 @@ fn hear(
         held_run,
         entered,
     )
-}
-
-// A call of its own: of what hearing needs on the stack nothing lies beside what this needs.
-#[inline(never)]
-fn put_heard(port: Port, state: &mut [u16; 22])
-    ensures { state.new ≡ numbers_after state.old port }
-{
-    put_port(port, state);
 }
 
 // A message from a side.
@@ -100,8 +92,7 @@ pub fn laptop_message(
         entered,
     );
     let given = stepped_on(side_from(side), port_from(state), heard);
-    put_heard(port_in(given), state);
-    tell(given, handed)
+    hand_over(given, state, handed)
 }
 
 // How many modes of the SVID are entered on a side.

@@ -7,7 +7,7 @@ ghost use Rattle.laws.specs.Lent.{lent};
 
 use crate::numbers::side_from;
 use crate::port_state::port_from;
-use crate::told::hand_over;
+use crate::told::{hand_over, hand_over_here};
 
 pub fn laptop_next(
     state: &mut [u16; 22],
@@ -32,7 +32,7 @@ pub fn laptop_next(
         held_run,
         out,
     );
-    hand_over(given, state, handed)
+    hand_over_here(given, state, handed)
 }
 
 pub fn laptop_start_over(

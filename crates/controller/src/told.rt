@@ -8,7 +8,7 @@ ghost use Rattle.controller.specs.Port.{numbers_after};
 ghost use Rattle.controller.specs.Told.{request_numbers, notice_numbers, told_numbers, handed_numbers};
 
 use crate::numbers::side_number;
-use crate::port_writing::put_port;
+use crate::port_writing::{put_port, put_port_here};
 use laptop::{Notice, Told};
 use messages::{ATTENTION, Request};
 use port::{Accepted, Port, Refused};
@@ -56,7 +56,7 @@ fn told_numbers(length: u8, told: Told, side: u8) -> [u32; 8]
     }
 }
 
-pub(crate) fn port_in(given: Result<Accepted, Refused>) -> Port
+fn port_in(given: Result<Accepted, Refused>) -> Port
     ensures { result ≡ (stepped given).port }
 {
     match given {
@@ -67,7 +67,7 @@ pub(crate) fn port_in(given: Result<Accepted, Refused>) -> Port
 
 // On acceptance writes what is handed over into what was lent; gives the refusal number.
 #[inline(always)]
-pub(crate) fn tell(given: Result<Accepted, Refused>, handed: &mut [u32; 8]) -> u8
+fn tell(given: Result<Accepted, Refused>, handed: &mut [u32; 8]) -> u8
     ensures { (result ≡ (stepped given).refusal)
         × (handed.new ≡ accepted result (handed_numbers (stepped given)) handed.old) }
 {
@@ -80,8 +80,8 @@ pub(crate) fn tell(given: Result<Accepted, Refused>, handed: &mut [u32; 8]) -> u
     }
 }
 
-// The new state is written back, on acceptance what is handed over too; gives the refusal number.
-// A part of its callers, and the state is written at one place: else it costs them two more ports on the stack.
+// The new state is written back, on acceptance what is handed over too; gives the refusal number. A part of its callers,
+// and the state is written at one place: else it costs them two more ports on the stack.
 #[inline(always)]
 pub(crate) fn hand_over(
     given: Result<Accepted, Refused>,
@@ -92,6 +92,21 @@ pub(crate) fn hand_over(
         × (state.new ≡ numbers_after state.old (stepped given).port)
         × (handed.new ≡ accepted result (handed_numbers (stepped given)) handed.old) }
 {
-    put_port(port_in(given), state);
+    put_port(&port_in(given), state);
+    tell(given, handed)
+}
+
+// The same for `laptop_next`, which has less on the stack where the state is written in it.
+#[inline(always)]
+pub(crate) fn hand_over_here(
+    given: Result<Accepted, Refused>,
+    state: &mut [u16; 22],
+    handed: &mut [u32; 8],
+) -> u8
+    ensures { (result ≡ (stepped given).refusal)
+        × (state.new ≡ numbers_after state.old (stepped given).port)
+        × (handed.new ≡ accepted result (handed_numbers (stepped given)) handed.old) }
+{
+    put_port_here(&port_in(given), state);
     tell(given, handed)
 }

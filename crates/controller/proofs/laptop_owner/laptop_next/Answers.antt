@@ -3,4 +3,4 @@ use Rattle.controller.proofs.LaptopHanding.{sends_in}
 use Rattle.controller.proofs.laptop_owner.laptop_next.Goals as goal
 
 pub returns : goal.returns
-returns c = sends_in c.hand_over.ensures c.side_from.ensures c.port_from.ensures c.next-given.ensures
+returns c = sends_in c.hand_over_here.ensures c.side_from.ensures c.port_from.ensures c.next-given.ensures

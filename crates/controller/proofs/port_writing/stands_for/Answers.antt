@@ -7,10 +7,10 @@ use Rattle.controller.proofs.port_writing.stands_for.Goals as goal
 
 pub returns-then-same_own : goal.returns-then-same_own
 returns-then-same_own c =
-    rw (same_port c.args.state.now c.args.port)
+    rw (same_port c.args.state.now c.args.port.now)
     (elim c.if-same_wait.branch [ then-same_wait w ↦ grind (arith, common_steps) | else-same_wait w ↦ grind (arith, common_steps) ])
 
 pub returns-else-same_own : goal.returns-else-same_own
 returns-else-same_own c =
-    rw (same_port c.args.state.now c.args.port)
+    rw (same_port c.args.state.now c.args.port.now)
     (elim c.if-same_wait.branch [ then-same_wait w ↦ grind (arith, common_steps) | else-same_wait w ↦ grind (arith, common_steps) ])

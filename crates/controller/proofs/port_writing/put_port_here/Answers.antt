@@ -1,6 +1,6 @@
--- `put_port` meets its promise.
+-- `put_port_here` meets its promise.
 use Rattle.controller.specs.Port.{numbers_after}
-use Rattle.controller.proofs.port_writing.put_port.Goals as goal
+use Rattle.controller.proofs.port_writing.put_port_here.Goals as goal
 
 pub returns-then-not-stands_for : goal.returns-then-not-stands_for
 unfolding numbers_after

@@ -25,7 +25,7 @@ pub fn laptop_fresh(
     write_port(&port::fresh(partner_entered, cable_entered), state);
 }
 
-// A function of its own: what it needs on the stack is free when the step is handed over. The port is read anew then, and does not lie there meanwhile.
+// The port is read anew behind it, and does not lie on the stack meanwhile.
 fn hear(
     state: &[u16; 22],
     side: u8,

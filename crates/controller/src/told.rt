@@ -1,6 +1,7 @@
-// What a laptop's call hands over besides the refusal number, as eight numbers: how many bytes of the output buffer are to be sent; what policy
-// is told (0 nothing, 1 an Attention, 2 NAK, 3 BUSY, 4 a timer, 5 a protocol error); the SVID, command and position of the request, or of the
-// Attention, with how many objects follow its header and that object; the side (0 the partner, 1 the cable).
+// What a laptop's call hands over besides the refusal number, as eight numbers: how many bytes of the output buffer are
+// to be sent; what policy is told (0 nothing, 1 an Attention, 2 NAK, 3 BUSY, 4 a timer, 5 a protocol error); the SVID,
+// command and position of the request, or of the Attention, with how many objects follow its header and that object;
+// the side (0 the partner, 1 the cable).
 ghost use Rattle.std.specs.Prelude.{◌≡◌};
 ghost use Rattle.laws.specs.Lent.{accepted};
 ghost use Rattle.port.specs.Step.{stepped};
@@ -80,8 +81,8 @@ fn tell(given: Result<Accepted, Refused>, handed: &mut [u32; 8]) -> u8
     }
 }
 
-// The new state is written back, on acceptance what is handed over too; gives the refusal number. A part of its callers,
-// and the state is written at one place: else it costs them two more ports on the stack.
+// The new state is written back, on acceptance what is handed over too; gives the refusal number. A part of its
+// callers, and the state is written at one place: else it costs them two more ports on the stack.
 #[inline(always)]
 pub(crate) fn hand_over(
     given: Result<Accepted, Refused>,

@@ -1,7 +1,7 @@
 #![tactic(auto)]
 
-// Laptop events as bytes: document 01, "Catalogue bytes and the watcher program", and document 02, R-4. One byte of kind, then a body whose length the
-// kind fixes.
+// Laptop events as bytes: document 01, "Catalogue bytes and the watcher program", and document 02, R-4. One byte of
+// kind, then a body whose length the kind fixes.
 mod calls;
 mod kinds;
 
@@ -42,7 +42,8 @@ pub enum Event {
     Call(Side, Call),
 }
 
-// Why no whole event stands first among bytes: they have a kind that there is not, or a body that is cut, or there are none.
+// Why no whole event stands first among bytes: they have a kind that there is not, or a body that is cut, or there are
+// none.
 #[derive(Clone, Copy)]
 pub enum Missing {
     Unknown,

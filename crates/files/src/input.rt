@@ -9,8 +9,8 @@ use std::io::{Error, Read};
 // `front_decides` in crates/catalogue_laws/proofs/Front.antt and `front_mended` in crates/mending/proofs/Laws.antt.
 pub const FRONT: usize = 2426;
 
-// The bytes that were read, fewer than there is room for only where the input ended. A read gives as many bytes as come,
-// so no `for` knows its steps.
+// The bytes that were read, fewer than there is room for only where the input ended. A read gives as many bytes as
+// come, so no `for` knows its steps.
 fn read_front<'a, R: Read>(reader: &mut R, front: &'a mut [u8]) -> Result<&'a [u8], Error> {
     let mut end = 0;
     while end < front.len() {

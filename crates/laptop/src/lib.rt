@@ -1,11 +1,11 @@
 #![tactic(auto)]
 
-// The laptop end (Initiator): its state, what every call is made of, and the report of entered modes. Document 01, "The laptop end". `owner` and `modes`
-// have the owner's calls, `timers` the timers, `hearing` the message that arrives.
+// The laptop end (Initiator): its state, what every call is made of, and the report of entered modes. Document 01, "The
+// laptop end". `owner` and `modes` have the owner's calls, `timers` the timers, `hearing` the message that arrives.
 //
-// What is small goes by value in a `Laptop`. Lent beside it, in arrays that every call leaves as its promise says: the candidate's SVIDs, the
-// number of modes of each and its identity objects; the same of the held catalogue; the entered modes of each held SVID, a bit for each
-// position; and the two runs of mode words.
+// What is small goes by value in a `Laptop`. Lent beside it, in arrays that every call leaves as its promise says: the
+// candidate's SVIDs, the number of modes of each and its identity objects; the same of the held catalogue; the entered
+// modes of each held SVID, a bit for each position; and the two runs of mode words.
 mod calls;
 mod marks;
 mod places;
@@ -31,8 +31,9 @@ pub struct Size {
     pub count: u8,
 }
 
-// The request whose answer is awaited, where the candidate stands and its size, how many of its SVIDs have their modes stored, the pages
-// counted since the last Identity was sent, the size of the catalogue that is held, and the edition of what is sent.
+// The request whose answer is awaited, where the candidate stands and its size, how many of its SVIDs have their modes
+// stored, the pages counted since the last Identity was sent, the size of the catalogue that is held, and the edition
+// of what is sent.
 #[derive(Clone, Copy)]
 pub struct Laptop {
     pub wait: Option<Request>,

@@ -26,8 +26,9 @@ pub struct State {
     cable_output: u8,
 }
 
-// Of a timer or the protocol error, the side is the one that waited. Then come the request that is to be sent, high byte first, the digest of a lent output buffer, what policy is told,
-// the number of bytes of a catalogue that was written and their digest, and the number of an SVID's entered modes.
+// Of a timer or the protocol error, the side is the one that waited. Then come the request that is to be sent, high
+// byte first, the digest of a lent output buffer, what policy is told, the number of bytes of a catalogue that was
+// written and their digest, and the number of an SVID's entered modes.
 #[derive(Clone, Copy)]
 pub struct Answer {
     pub side: Side,

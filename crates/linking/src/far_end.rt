@@ -8,9 +8,9 @@ use pages::MOST_SVIDS;
 // The modes of each of the dock's SVIDs.
 pub type Modes = [Objects; MOST_SVIDS];
 
-// The dock with its highest edition, and the link to it. `lost` counts the confirmations lost in this gathering. The last two fields are of the last event:
-// the outcome is that of the call that it made.
-// A permitted event may make no call, so the outcome does not say whether the event is permitted.
+// The dock with its highest edition, and the link to it. `lost` counts the confirmations lost in this gathering. The
+// last two fields are of the last event: the outcome is that of the call that it made. A permitted event may make no
+// call, so the outcome does not say whether the event is permitted.
 #[derive(Clone, Copy)]
 pub struct FarEnd {
     pub dock: Dock,

@@ -144,7 +144,8 @@ impl Link {
         }
     }
 
-    // After an event at the dock or on the way there. Of an answer before the last request nothing can arrive or be heard.
+    // After an event at the dock or on the way there. Of an answer before the last request nothing can arrive or be
+    // heard.
     pub fn take(&mut self, event: Event) {
         match event {
             Event::RequestReaches => *self = Link::quiet(),

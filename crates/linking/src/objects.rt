@@ -34,7 +34,8 @@ impl Objects {
     }
 }
 
-// A byte says how many numbers follow it, which go to the first of those that are lent; nothing where they are cut or too many.
+// A byte says how many numbers follow it, which go to the first of those that are lent; nothing where they are cut or
+// too many.
 pub(crate) fn read_some<T, F: FnOnce(&mut [T]) -> Result<(), Stop>>(
     numbers: &mut [T],
     fill: F,

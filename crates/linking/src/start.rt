@@ -1,4 +1,5 @@
-// What a far end begins with: the dock's data, its first page, whether the laptop end holds an old catalogue, and the dock's highest edition.
+// What a far end begins with: the dock's data, its first page, whether the laptop end holds an old catalogue, and the
+// dock's highest edition.
 use crate::far_end::{FarEnd, Modes};
 use crate::objects::{Objects, read_objects, read_some};
 use dock::Dock;
@@ -30,8 +31,8 @@ fn read_modes(count: u8) -> Option<Modes> {
     Some(modes)
 }
 
-// Behind the dock's data stand its modes, its page, 0 or 1 for what the laptop end holds, and the number of its highest edition. Nothing begins where any of
-// it is cut or breaks a limit.
+// Behind the dock's data stand its modes, its page, 0 or 1 for what the laptop end holds, and the number of its highest
+// edition. Nothing begins where any of it is cut or breaks a limit.
 pub fn read_start() -> Option<Start> {
     let dock = read_dock()?;
     let modes = read_modes(dock.count)?;

@@ -1,7 +1,7 @@
 #![tactic(auto)]
 
-// Structured VDMs of USB Power Delivery: document 01, "Message layout". What a message is made of, and the table. `reading` reads one off bytes,
-// `writing` writes one.
+// Structured VDMs of USB Power Delivery: document 01, "Message layout". What a message is made of, and the table.
+// `reading` reads one off bytes, `writing` writes one.
 mod edition;
 mod items;
 mod object;
@@ -16,8 +16,9 @@ pub use refusal::Refusal;
 pub use request::{Request, head_for, same_request};
 pub use table::shape;
 
-// What a VDM header says, its edition left out: nothing that is compared looks at that. 01's types are numbers here: REQ, ACK, NAK, BUSY.
-// They and the commands stay numbers: any may come off the wire, and `shape` says of each number what it is.
+// What a VDM header says, its edition left out: nothing that is compared looks at that. 01's types are numbers here:
+// REQ, ACK, NAK, BUSY. They and the commands stay numbers: any may come off the wire, and `shape` says of each number
+// what it is.
 #[derive(Clone, Copy)]
 pub struct Head {
     pub svid: u16,
@@ -48,8 +49,8 @@ pub const EXIT: u8 = 5;
 
 pub const ATTENTION: u8 = 6;
 
-// A message that was read: its edition, its head, and the number of objects after the header, which stand first among the six words, with zeros behind them.
-// All six words are told, as `shown` defines it.
+// A message that was read: its edition, its head, and the number of objects after the header, which stand first among
+// the six words, with zeros behind them. All six words are told, as `shown` defines it.
 #[derive(Clone, Copy)]
 pub struct Received {
     pub edition: Edition,

@@ -1,4 +1,5 @@
-// Why a call refuses: the refusals of document 01, and of document 02 from 15 on, each by a name. Number 4 is withdrawn (02, R-2), and has none.
+// Why a call refuses: the refusals of document 01, and of document 02 from 15 on, each by a name. Number 4 is withdrawn
+// (02, R-2), and has none.
 ghost use Rattle.std.specs.Prelude.{◌≡◌};
 ghost use Rattle.messages.specs.Refusals.{number_of};
 
@@ -29,7 +30,8 @@ pub enum Refusal {
     Blocked = 13,
     // Two hundred pages without an end.
     Endless = 14,
-    // In a catalogue's bytes: no kind of record, a record that is cut or has to come, one that may not follow, bytes behind the end, no whole identity.
+    // In a catalogue's bytes: no kind of record, a record that is cut or has to come, one that may not follow, bytes
+    // behind the end, no whole identity.
     UnknownKind = 15,
     CutRecord = 16,
     OutOfOrder = 17,

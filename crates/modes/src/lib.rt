@@ -43,7 +43,8 @@ fn enter_check(list: &[u16], modes: &[u8], entered: &[u8], mode: Request) -> Res
     }
 }
 
-// What *exit* is refused for: the SVID is not held, or the position is neither 7 nor one of its modes; or it is not entered.
+// What *exit* is refused for: the SVID is not held, or the position is neither 7 nor one of its modes; or it is not
+// entered.
 #[tactic(auto, unfolding(owner::specs::Owner::exit_refusal))]
 fn exit_check(list: &[u16], modes: &[u8], entered: &[u8], mode: Request) -> Result<(), Refusal>
     ensures { number_in result ≡ exit_refusal list.now modes.now entered.now mode.svid mode.position }
@@ -58,7 +59,8 @@ fn exit_check(list: &[u16], modes: &[u8], entered: &[u8], mode: Request) -> Resu
     }
 }
 
-// *Enter* and *exit* stay two calls, lent each array by itself, as the C interface has them; each has refusals of its own.
+// *Enter* and *exit* stay two calls, lent each array by itself, as the C interface has them; each has refusals of its
+// own.
 pub fn enter(
     laptop: Laptop,
     svid: u16,

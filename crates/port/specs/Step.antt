@@ -1,5 +1,5 @@
--- What a call gives back, by 01's numbers: the refusal, 0 for none; how many bytes of the output buffer are to be sent; what policy
--- is told, and of which side; and the new state.
+-- What a call gives back, by 01's numbers: the refusal, 0 for none; how many bytes of the output buffer are to be sent;
+-- what policy is told, and of which side; and the new state.
 use Rattle.std.specs.Prelude.{ℕ, Result, Ok, Err}
 use Rattle.messages.specs.Refusals.{number_of}
 use Rattle.laptop.specs.declared.Told.{Told}

@@ -1,9 +1,10 @@
 #![tactic(auto)]
 
-// The laptop end as its users know it: a catalogue of the port partner, and one of the near cable plug. Document 02, R-4. Each side is a laptop of document
-// 01, and one wait is shared by the two.
+// The laptop end as its users know it: a catalogue of the port partner, and one of the near cable plug. Document 02,
+// R-4. Each side is a laptop of document 01, and one wait is shared by the two.
 //
-// What is small goes by value in a `Port`. A call for a side is lent that side's arrays and runs alone, which are those of `laptop`.
+// What is small goes by value in a `Port`. A call for a side is lent that side's arrays and runs alone, which are those
+// of `laptop`.
 mod arrival;
 mod freshness;
 mod owners;
@@ -48,8 +49,8 @@ pub struct Port {
     pub cable: Own,
 }
 
-// What a call gives back: how many bytes of the output buffer are to be sent, what policy is told and of which side, and the new state. A timer's side
-// is the one that waited, or the partner where none did.
+// What a call gives back: how many bytes of the output buffer are to be sent, what policy is told and of which side,
+// and the new state. A timer's side is the one that waited, or the partner where none did.
 #[derive(Clone, Copy)]
 pub struct Accepted {
     pub length: u8,

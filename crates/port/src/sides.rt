@@ -112,8 +112,8 @@ fn laptop_in(given: Result<laptop::Accepted, laptop::Refused>) -> Laptop
     }
 }
 
-// What a call of document 01 on a side gave, as the port's. A part of its callers, and the laptop is put back at one place: else it costs them
-// 238 bytes of stack.
+// What a call of document 01 on a side gave, as the port's. A part of its callers, and the laptop is put back at one
+// place: else it costs them 238 bytes of stack.
 #[inline(always)]
 pub fn stepped_on(
     side: Side,

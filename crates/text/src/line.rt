@@ -1,5 +1,5 @@
-// One line of output, built in fixed memory, so that one call writes it. A method adds its text behind what stands there; what finds no room is left
-// out.
+// One line of output, built in fixed memory, so that one call writes it. A method adds its text behind what stands
+// there; what finds no room is left out.
 ghost use Rattle.std.specs.Prelude.{◌≡◌, ℕ, ◌+◌, ◌<◌, ◌≤◌, List, [], ◌∷◌, ◌++◌, length, take, true};
 ghost use Rattle.std.specs.Fmt.{decimal, digit_glyph};
 ghost use Rattle.std.specs.Int.{to_be_bytes, w16};

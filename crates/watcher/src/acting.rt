@@ -20,7 +20,8 @@ pub struct Answer {
     pub port: Port,
 }
 
-// The bytes of a message stand behind its kind. The port goes by value, apart from what is lent, and is kept in registers.
+// The bytes of a message stand behind its kind. The port goes by value, apart from what is lent, and is kept in
+// registers.
 pub fn act(port: Port, lent: &mut Lent, event: Event, body: &[u8]) -> Answer {
     let mut request = [0; OBJECT];
     let (side, stepped) = match event {

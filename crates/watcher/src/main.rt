@@ -1,6 +1,7 @@
 #![tactic(auto)]
 
-// The watcher of documents 01 and 02: drives the laptop end by the events on standard input, and prints a line for each.
+// The watcher of documents 01 and 02: drives the laptop end by the events on standard input, and prints a line for
+// each.
 mod acting;
 
 use acting::{act, add_answer};
@@ -13,8 +14,8 @@ use text::line::Line;
 // How many bytes are read or written at once.
 const BLOCK: usize = 16384;
 
-// The longest line: a number of seven digits, a refusal, eight digits of a header, a page count and a number of SVIDs of three digits each, a
-// space before each but the first, and the line end.
+// The longest line: a number of seven digits, a refusal, eight digits of a header, a page count and a number of SVIDs
+// of three digits each, a space before each but the first, and the line end.
 const LONGEST_LINE: usize = 29;
 
 // How the input ends where no event is found in it.

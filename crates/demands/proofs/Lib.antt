@@ -5,4 +5,5 @@ pub mod LaptopTight
 pub mod NeverFour
 pub mod PartsTight
 pub mod PortTight
+pub mod ResultsTight
 pub mod Written

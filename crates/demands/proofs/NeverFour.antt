@@ -14,7 +14,7 @@ use Rattle.messages.proofs.Reserved.{read_never_4, write_never_4}
 use Rattle.pages.specs.Lists.{most_svids}
 use Rattle.taking.specs.declared.Verdict.{Verdict}
 use Rattle.taking.specs.declared.Verdict.TheVariants.{Bad, Repeat, More, Ends}
-use Rattle.std.specs.Prelude.{Option, Some, None}
+use Rattle.std.specs.Prelude.{Some, None}
 use Rattle.dock.specs.Data.{with_edition}
 use Rattle.dock.specs.Dock.{reply, sending}
 use Rattle.dock.specs.Dock.{sends as dock_sends}

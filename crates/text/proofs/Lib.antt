@@ -1,2 +1,3 @@
--- Lemmas on what a line says.
+-- Lemmas on what a line says, and on digits.
 pub mod Text
+mod Decimals

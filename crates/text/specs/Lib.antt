@@ -1,2 +1,3 @@
 -- What a line says.
+pub mod Said
 pub mod Text

@@ -3,10 +3,12 @@
 ghost use Rattle.std.specs.Prelude.{◌≡◌, ℕ, ◌+◌, ◌<◌, ◌≤◌, List, [], ◌∷◌, ◌++◌, length, take, true};
 ghost use Rattle.std.specs.Fmt.{decimal, digit_glyph};
 ghost use Rattle.std.specs.Int.{to_be_bytes, w16};
+ghost use Rattle.text.specs.Said.{said as Said·said};
 ghost use Rattle.text.specs.Text.{with_text, spaced, edition_text, hex_bytes, hex_word, hex_words};
 
+pub use crate::buffer::Line;
+use crate::digits::{MOST_DIGITS, put_digits};
 use std::fmt;
-use std::marker::Model;
 
 // The number of standard output among the open files.
 const STDOUT: i32 = 1;
@@ -23,24 +25,9 @@ fn digit(value: u8) -> u8
     }
 }
 
-#[derive(Drop)]
-pub struct Line<const N: usize> {
-    bytes: [u8; N],
-    end: usize,
-}
-
-// Clauses see what the line says so far.
-impl<const N: usize> Model for Line<N> {
-    ghost Value = { List ℕ };
-
-    ghost view = { λ line. take line.end line.bytes };
-
-    ghost invariant = { λ line. line.end ≤ N };
-}
-
 impl<const N: usize> Line<N> {
     pub fn new() -> Self
-        ensures { result ≡ [] }
+        ensures { Said·said result ≡ [] }
     {
         Line {
             bytes: [0; N],
@@ -50,7 +37,7 @@ impl<const N: usize> Line<N> {
 
     // A line that starts with a number and a text.
     pub fn numbered(number: u64, text: &[u8]) -> Self
-        ensures { result ≡ with_text N [] (decimal number ++ text.now) }
+        ensures { Said·said result ≡ with_text N [] (decimal number ++ text.now) }
     {
         let mut line = Line::new();
         line.decimal(number);
@@ -60,7 +47,7 @@ impl<const N: usize> Line<N> {
 
     // What the line says so far.
     pub fn said(&self) -> &[u8]
-        ensures { result.now ≡ self.now }
+        ensures { result.now ≡ Said·said self.now }
     {
         &self.bytes[..self.end]
     }
@@ -72,7 +59,7 @@ impl<const N: usize> Line<N> {
 
     // Ends the line and writes it.
     pub fn print_line(&mut self)
-        ensures { self.new ≡ with_text N self.old (10 ∷ []) }
+        ensures { Said·said self.new ≡ with_text N (Said·said self.old) (10 ∷ []) }
     {
         self.byte(b'\n');
         self.print();
@@ -80,8 +67,8 @@ impl<const N: usize> Line<N> {
 
     // Writes the text and begins anew where there is less room than wanted.
     pub fn make_room(&mut self, wanted: usize)
-        ensures kept { length self.old + wanted ≤ N → self.new ≡ self.old }
-        ensures begun { N < length self.old + wanted → self.new ≡ [] }
+        ensures kept { length (Said·said self.old) + wanted ≤ N → self.new ≡ self.old }
+        ensures begun { N < length (Said·said self.old) + wanted → Said·said self.new ≡ [] }
     {
         if N - self.end < wanted {
             self.print();
@@ -90,7 +77,7 @@ impl<const N: usize> Line<N> {
     }
 
     pub fn byte(&mut self, byte: u8)
-        ensures { self.new ≡ with_text N self.old (byte ∷ []) }
+        ensures { Said·said self.new ≡ with_text N (Said·said self.old) (byte ∷ []) }
     {
         if self.end < N {
             self.bytes[self.end] = byte;
@@ -99,7 +86,7 @@ impl<const N: usize> Line<N> {
     }
 
     pub fn text(&mut self, text: &[u8])
-        ensures { self.new ≡ with_text N self.old text.now }
+        ensures { Said·said self.new ≡ with_text N (Said·said self.old) text.now }
     {
         let count = text.len().min(N - self.end);
         let bytes = &mut self.bytes[..];
@@ -107,16 +94,21 @@ impl<const N: usize> Line<N> {
         self.end += count;
     }
 
-    // The library takes two digits from each division.
+    // Most numbers have one digit, which needs no other place first.
     pub fn decimal(&mut self, number: u64)
-        ensures { self.new ≡ with_text N self.old (decimal number) }
+        ensures { Said·said self.new ≡ with_text N (Said·said self.old) (decimal number) }
     {
-        self.text(itoa::Buffer::new().format(number).as_bytes());
+        if number < 10 {
+            return self.byte(b'0' + number as u8);
+        }
+        let mut digits = [0; MOST_DIGITS];
+        let start = put_digits(number, &mut digits);
+        self.text(&digits[start..]);
     }
 
     // The number has a space before it.
     pub fn field<T: Into<u64>>(&mut self, number: T)
-        ensures { (n : ℕ) × T.converts number n × (self.new ≡ with_text N self.old (spaced (decimal n))) }
+        ensures { (n : ℕ) × T.converts number n × (Said·said self.new ≡ with_text N (Said·said self.old) (spaced (decimal n))) }
     {
         self.byte(b' ');
         self.decimal(number.into());
@@ -124,7 +116,7 @@ impl<const N: usize> Line<N> {
 
     // An edition by its number, with a space before it: 21 stands as 2.1.
     pub fn edition(&mut self, number: u8)
-        ensures { self.new ≡ with_text N self.old (spaced (edition_text number)) }
+        ensures { Said·said self.new ≡ with_text N (Said·said self.old) (spaced (edition_text number)) }
     {
         self.field(number / 10);
         self.byte(b'.');
@@ -133,7 +125,7 @@ impl<const N: usize> Line<N> {
 
     // Each byte stands as its two digits, with nothing between them.
     pub fn bytes(&mut self, bytes: &[u8])
-        ensures { self.new ≡ with_text N self.old (hex_bytes bytes.now) }
+        ensures { Said·said self.new ≡ with_text N (Said·said self.old) (hex_bytes bytes.now) }
     {
         for byte in bytes {
             self.byte(digit(byte / 16));
@@ -142,20 +134,20 @@ impl<const N: usize> Line<N> {
     }
 
     pub fn half(&mut self, half: u16)
-        ensures { self.new ≡ with_text N self.old (hex_bytes (to_be_bytes w16 half)) }
+        ensures { Said·said self.new ≡ with_text N (Said·said self.old) (hex_bytes (to_be_bytes w16 half)) }
     {
         self.bytes(&half.to_be_bytes());
     }
 
     pub fn word(&mut self, word: u32)
-        ensures { self.new ≡ with_text N self.old (hex_word word) }
+        ensures { Said·said self.new ≡ with_text N (Said·said self.old) (hex_word word) }
     {
         self.bytes(&word.to_be_bytes());
     }
 
     // The bytes have a space before them.
     pub fn spaced_bytes(&mut self, bytes: &[u8])
-        ensures { self.new ≡ with_text N self.old (spaced (hex_bytes bytes.now)) }
+        ensures { Said·said self.new ≡ with_text N (Said·said self.old) (spaced (hex_bytes bytes.now)) }
     {
         self.byte(b' ');
         self.bytes(bytes);
@@ -163,7 +155,7 @@ impl<const N: usize> Line<N> {
 
     // The word has a space before it.
     pub fn spaced_word(&mut self, word: u32)
-        ensures { self.new ≡ with_text N self.old (spaced (hex_word word)) }
+        ensures { Said·said self.new ≡ with_text N (Said·said self.old) (spaced (hex_word word)) }
     {
         self.byte(b' ');
         self.word(word);
@@ -171,7 +163,7 @@ impl<const N: usize> Line<N> {
 
     // Each word has a space before it.
     pub fn words(&mut self, words: &[u32])
-        ensures { self.new ≡ with_text N self.old (hex_words words.now) }
+        ensures { Said·said self.new ≡ with_text N (Said·said self.old) (hex_words words.now) }
     {
         for word in words {
             self.spaced_word(*word);
@@ -180,15 +172,15 @@ impl<const N: usize> Line<N> {
 
     // What a line has where there is nothing to tell.
     pub fn nothing(&mut self)
-        ensures { self.new ≡ with_text N self.old (spaced (45 ∷ [])) }
+        ensures { Said·said self.new ≡ with_text N (Said·said self.old) (spaced (45 ∷ [])) }
     {
         self.text(b" -");
     }
 
     // The bytes with a space before them, where there are any to tell.
     pub fn bytes_or_nothing(&mut self, bytes: &[u8])
-        ensures some { 0 < length bytes.now → self.new ≡ with_text N self.old (spaced (hex_bytes bytes.now)) }
-        ensures none { length bytes.now ≡ 0 → self.new ≡ with_text N self.old (spaced (45 ∷ [])) }
+        ensures some { 0 < length bytes.now → Said·said self.new ≡ with_text N (Said·said self.old) (spaced (hex_bytes bytes.now)) }
+        ensures none { length bytes.now ≡ 0 → Said·said self.new ≡ with_text N (Said·said self.old) (spaced (45 ∷ [])) }
     {
         if bytes.is_empty() {
             self.nothing();
@@ -200,7 +192,7 @@ impl<const N: usize> Line<N> {
 
 // What `write!` writes goes behind the text, and is an error where it finds no room.
 impl<const N: usize> fmt::Write for Line<N> {
-    ghost write_str_gives = { λ line text after. after ≡ line ++ text };
+    ghost write_str_gives = { λ line text after. Said·said after ≡ Said·said line ++ text };
 
     fn write_str(&mut self, s: &str) -> fmt::Result {
         if N - self.end < s.len() {

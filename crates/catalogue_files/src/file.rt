@@ -1,7 +1,7 @@
 // What both kinds of question share: the file that is asked about, and the front of its line.
 use judging::Fault;
 use streams::finish::Stop;
-use streams::input::{fill, read_half};
+use streams::input::fill;
 use text::line;
 
 // A longer file counts as one of so many bytes.
@@ -17,10 +17,9 @@ pub type Line = line::Line<LONGEST>;
 // Each byte of what is lent is this before the call, so that a reader sees what was left alone.
 pub const UNWRITTEN: u8 = 0xEE;
 
-// Reads the file: its length, and so many bytes.
-pub fn read_file(buffer: &mut [u8; MOST_BYTES]) -> Result<&[u8], Stop> {
-    let length = usize::from(read_half()?).min(MOST_BYTES);
-    let bytes = &mut buffer[..length];
+// Reads the file, of so many bytes.
+pub fn read_file(length: u16, buffer: &mut [u8; MOST_BYTES]) -> Result<&[u8], Stop> {
+    let bytes = &mut buffer[..usize::from(length).min(MOST_BYTES)];
     fill(bytes)?;
     Ok(bytes)
 }

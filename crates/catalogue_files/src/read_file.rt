@@ -7,7 +7,7 @@ use driving::digest::{of_bytes, of_halves, of_words};
 use judging::Fault;
 use rebuilding::{Rebuilt, read_catalogue};
 use streams::finish::Stop;
-use streams::input::read_half;
+use streams::input::read_bytes;
 use stretches::stretch_of;
 
 // The words of the whole array, of which the first are lent.
@@ -72,17 +72,17 @@ fn add_stretch(line: &mut Line, bytes: &[u8], svid: u16) {
 }
 
 // Reads the file and prints its line. Before the file stand the words that are lent, the SVID, the bytes that are lent
-// and the file's length.
+// and the file's length, which are read at once.
 pub fn answer(number: u64) -> Result<(), Stop> {
-    let words = usize::from(read_half()?).min(RUN);
-    let svid = read_half()?;
-    let room = usize::from(read_half()?).min(BUFFER);
+    let [run, run_high, svid, svid_high, room, room_high, length, length_high] = read_bytes()?;
+    let words = usize::from(u16::from_le_bytes([run, run_high]));
+    let room = usize::from(u16::from_le_bytes([room, room_high]));
     let mut buffer = [0u8; MOST_BYTES];
-    let bytes = read_file(&mut buffer)?;
+    let bytes = read_file(u16::from_le_bytes([length, length_high]), &mut buffer)?;
     let mut line = Line::numbered(number, b" read");
-    add_catalogue(&mut line, bytes, words);
-    add_stretch(&mut line, bytes, svid);
-    add_mending(&mut line, bytes, room);
+    add_catalogue(&mut line, bytes, words.min(RUN));
+    add_stretch(&mut line, bytes, u16::from_le_bytes([svid, svid_high]));
+    add_mending(&mut line, bytes, room.min(BUFFER));
     line.print_line();
     Ok(())
 }

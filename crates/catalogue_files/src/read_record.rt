@@ -3,7 +3,7 @@ use crate::file::{Line, MOST_BYTES, add_numbers, read_file};
 use messages::Refusal;
 use records::{Missing, Record, Whole, record_from};
 use streams::finish::Stop;
-use streams::input::read_half;
+use streams::input::read_bytes;
 
 fn add_record(line: &mut Line, record: Record) {
     match record {
@@ -35,11 +35,12 @@ fn add_found(line: &mut Line, found: Result<Whole, Missing>, offset: usize) {
     }
 }
 
-// Reads the file and prints its line. Before the file stand the offset and the file's length.
+// Reads the file and prints its line. Before the file stand the offset and the file's length, which are read at once.
 pub fn answer(number: u64) -> Result<(), Stop> {
-    let offset = usize::from(read_half()?);
+    let [offset, offset_high, length, length_high] = read_bytes()?;
+    let offset = usize::from(u16::from_le_bytes([offset, offset_high]));
     let mut buffer = [0u8; MOST_BYTES];
-    let bytes = read_file(&mut buffer)?;
+    let bytes = read_file(u16::from_le_bytes([length, length_high]), &mut buffer)?;
     let mut line = Line::numbered(number, b" record");
     add_found(&mut line, record_from(bytes, offset), offset);
     line.print_line();

@@ -1,5 +1,4 @@
 // Lines about a catalogue file.
-use messages::Refusal;
 use text::line::Line;
 
 // The longest word before two numbers of up to 20 digits, what stands between and behind these, and the line end.
@@ -13,14 +12,14 @@ fn numbered(words: &[u8], number: u64) -> Line<LONGEST> {
     line
 }
 
-// A refusal that stands at no place in the file.
-pub fn print_refused(refusal: Refusal) {
-    numbered(b"refused ", u64::from(u8::from(refusal))).print_line();
+// A refusal, or its number, that stands at no place in the file.
+pub fn print_refused<N: Into<u8>>(refusal: N) {
+    numbered(b"refused ", u64::from(refusal.into())).print_line();
 }
 
 // A file's first fault, behind what became of the file.
-pub fn print_fault(words: &[u8], refusal: Refusal, offset: usize) {
-    let mut line = numbered(words, u64::from(u8::from(refusal)));
+pub fn print_fault<N: Into<u8>>(words: &[u8], refusal: N, offset: usize) {
+    let mut line = numbered(words, u64::from(refusal.into()));
     line.text(b" at offset ");
     line.decimal(offset as u64);
     line.print_line();

@@ -54,8 +54,8 @@ fn take_half() -> Result<u16, Stop> {
     Ok(u16::from_le_bytes(read_bytes()?))
 }
 
-fn take_length(most: usize) -> Result<usize, Stop> {
-    Ok(usize::from(take_half()?).min(most))
+fn length_in(half: u16, most: usize) -> usize {
+    usize::from(half).min(most)
 }
 
 fn take_message(message: &mut [u8]) -> Result<Event<'_>, Stop> {
@@ -65,11 +65,13 @@ fn take_message(message: &mut [u8]) -> Result<Event<'_>, Stop> {
     Ok(Event::Message(bytes))
 }
 
+// All three are read at once.
 fn take_lengths() -> Result<Lengths, Stop> {
+    let [output, run, run_high, held_run, held_run_high] = read_bytes()?;
     Ok(Lengths {
-        output: take_byte()?,
-        run: take_length(RUN)?,
-        held_run: take_length(RUN)?,
+        output,
+        run: length_in(u16::from_le_bytes([run, run_high]), RUN),
+        held_run: length_in(u16::from_le_bytes([held_run, held_run_high]), RUN),
     })
 }
 
@@ -78,7 +80,7 @@ fn take_body(kind: u8, message: &mut [u8]) -> Result<Event<'_>, Stop> {
         MESSAGE => take_message(message),
         FIRST_CALL..=LAST_CALL => Ok(Event::Call(take_call(kind)?)),
         REPORT => Ok(Event::Report(take_half()?)),
-        CATALOGUE => Ok(Event::Catalogue(take_length(CATALOGUE_ROOM)?)),
+        CATALOGUE => Ok(Event::Catalogue(length_in(take_half()?, CATALOGUE_ROOM))),
         LENGTHS => Ok(Event::Lengths(take_lengths()?)),
         _ => Err(Stop::Unknown),
     }

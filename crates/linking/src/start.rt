@@ -32,11 +32,14 @@ fn read_modes(count: u8) -> Option<Modes> {
 }
 
 // Behind the dock's data stand its modes, its page, 0 or 1 for what the laptop end holds, and the number of its highest
-// edition. Nothing begins where any of it is cut or breaks a limit.
+// edition. Nothing begins where any of it is cut or breaks a limit; these last three are read then too, behind what was
+// read before, so that the other side's data begins there.
 pub fn read_start() -> Option<Start> {
-    let dock = read_dock()?;
-    let modes = read_modes(dock.count)?;
-    let [page, old, highest]: [u8; 3] = read_bytes().ok()?;
+    let dock = read_dock();
+    let modes = read_modes(dock.map_or(0, |dock| dock.count));
+    let last = read_bytes::<3>();
+    let (dock, modes) = (dock?, modes?);
+    let [page, old, highest] = last.ok()?;
     let highest = Edition::try_from(highest).ok()?;
     if 1 < old {
         return None;

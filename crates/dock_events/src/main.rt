@@ -6,7 +6,7 @@ mod report;
 
 use dock::{Accepted, Dock};
 use report::print_event;
-use streams::finish::{STDOUT, Stop, answer_each};
+use streams::finish::{AnswersEach, STDOUT, Stop, answer_each};
 use streams::input::{GREATEST, read_byte};
 
 // The kind of the event that gives the output buffer another number of bytes. Module `event` has
@@ -53,6 +53,13 @@ fn answer_next(number: u64, state: State) -> Result<State, Stop> {
     }
 }
 
+impl AnswersEach for State {
+    fn answer(&mut self, number: u64) -> Result<(), Stop> {
+        *self = answer_next(number, *self)?;
+        Ok(())
+    }
+}
+
 fn main() {
     io::write_all(
         STDOUT,
@@ -62,9 +69,5 @@ fn main() {
         dock: dock::fresh(),
         room: FIRST_ROOM,
     };
-    let finish = answer_each(0, |number| -> Result<(), Stop> {
-        state = answer_next(number, state)?;
-        Ok(())
-    });
-    finish.print(b" events\n");
+    answer_each(0, &mut state).print(b" events\n");
 }

@@ -11,24 +11,43 @@ mod system;
 use event::take_event;
 use linking::start::read_start;
 use report::print_event;
-use streams::finish::{Finish, STDOUT, Stop, answer_each, answer_streams};
+use streams::finish::{
+    AnswersEach, AnswersStreams, Finish, STDOUT, Stop, answer_each, answer_streams,
+};
 use system::Ends;
 
-// A stream begins with what each side begins with.
-fn answer_stream(stream: u64, before: u64) -> Finish {
-    let (Some(partner), Some(cable)) = (read_start(), read_start()) else {
-        return Finish {
-            stop: Stop::BadStart,
-            answered: before,
-        };
-    };
-    let mut ends = Ends::new(partner, cable);
-    answer_each(before, |number| -> Result<(), Stop> {
+// The number of a stream, and what stays from event to event.
+#[derive(Clone, Copy)]
+struct Events {
+    stream: u64,
+    ends: Ends,
+}
+
+impl AnswersEach for Events {
+    fn answer(&mut self, number: u64) -> Result<(), Stop> {
         let (said, event) = take_event()?;
-        let side = ends.take(said, event);
-        print_event(stream, number, side, &ends);
+        let side = self.ends.take(said, event);
+        print_event(self.stream, number, side, &self.ends);
         Ok(())
-    })
+    }
+}
+
+// Nothing stays from stream to stream.
+#[derive(Clone, Copy)]
+struct Streams;
+
+impl AnswersStreams for Streams {
+    // A stream begins with what each side begins with.
+    fn answer(&mut self, stream: u64, before: u64) -> Finish {
+        let (Some(partner), Some(cable)) = (read_start(), read_start()) else {
+            return Finish {
+                stop: Stop::BadStart,
+                answered: before,
+            };
+        };
+        let ends = Ends::new(partner, cable);
+        answer_each(before, &mut Events { stream, ends })
+    }
 }
 
 fn main() {
@@ -40,7 +59,7 @@ fn main() {
         STDOUT,
         b" edition dock_edition other_pages other_candidate other_held other_edition\n",
     );
-    let finish = answer_streams(answer_stream);
+    let finish = answer_streams(&mut Streams);
     if finish.stop == Stop::BadStart {
         io::write_all(STDOUT, b"bad dock data\n");
     } else {

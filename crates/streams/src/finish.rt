@@ -40,14 +40,25 @@ impl Finish {
     }
 }
 
-// Answers a stream, after so many answers to the streams before it. `answer` is given the number of each vector or
-// event in its own stream.
-pub fn answer_each<F: FnMut(u64) -> Result<(), Stop>>(before: u64, mut answer: F) -> Finish
-    requires { F.IsAlwaysCallable answer }
+// What answers the vectors or events of a stream.
+pub trait AnswersEach {
+    // `number` is that of the vector or event in its own stream.
+    fn answer(&mut self, number: u64) -> Result<(), Stop>;
+}
+
+// What answers streams.
+pub trait AnswersStreams {
+    // `stream` is the number of the stream, and `before` says how many were answered of those before it.
+    fn answer(&mut self, stream: u64, before: u64) -> Finish
+        ensures { before ≤ 1000000 → result.answered ≤ 1000000 };
+}
+
+// Answers a stream, after so many answers to the streams before it.
+pub fn answer_each<A: AnswersEach>(before: u64, each: &mut A) -> Finish
     ensures { result.answered ≤ 1000000 }
 {
     for answered in before..MOST {
-        if let Err(stop) = answer(answered - before + 1) {
+        if let Err(stop) = each.answer(answered - before + 1) {
             return Finish { stop, answered };
         }
     }
@@ -57,16 +68,16 @@ pub fn answer_each<F: FnMut(u64) -> Result<(), Stop>>(before: u64, mut answer: F
     }
 }
 
-// Answers the streams. `answer` is given the number of each, and how many were answered of those before it.
-pub fn answer_streams<F: FnMut(u64, u64) -> Finish>(mut answer: F) -> Finish
-    requires { F.IsAlwaysCallable answer }
+// Answers the streams.
+pub fn answer_streams<A: AnswersStreams>(streams: &mut A) -> Finish
+    ensures { result.answered ≤ 1000000 }
 {
-    let mut finish = answer(1, 0);
+    let mut finish = streams.answer(1, 0);
     for stream in 2..=MOST {
         if finish.stop != Stop::NewStream {
             break;
         }
-        finish = answer(stream, finish.answered);
+        finish = streams.answer(stream, finish.answered);
     }
     finish
 }

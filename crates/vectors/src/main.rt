@@ -5,7 +5,7 @@
 mod read_vector;
 mod write_vector;
 
-use streams::finish::{STDOUT, Stop, answer_each};
+use streams::finish::{AnswersEach, STDOUT, Stop, answer_each};
 use streams::input::read_byte;
 use text::line;
 
@@ -21,16 +21,22 @@ const LONGEST: usize = 529;
 // It starts with the vector's number and what the vector asks.
 type Line = line::Line<LONGEST>;
 
-// As in catalogue_files but for both steps: a shared function would take the two as closures and say no less.
-fn answer_next(number: u64) -> Result<(), Stop> {
-    match read_byte().ok_or(Stop::Ended)? {
-        READ => read_vector::answer(number),
-        WRITE => write_vector::answer(number),
-        _ => Err(Stop::Unknown),
+// Nothing stays from vector to vector.
+#[derive(Clone, Copy)]
+struct Vectors;
+
+impl AnswersEach for Vectors {
+    // As in catalogue_files but for both steps: a shared function would take the two as closures and say no less.
+    fn answer(&mut self, number: u64) -> Result<(), Stop> {
+        match read_byte().ok_or(Stop::Ended)? {
+            READ => read_vector::answer(number),
+            WRITE => write_vector::answer(number),
+            _ => Err(Stop::Unknown),
+        }
     }
 }
 
 fn main() {
     io::write_all(STDOUT, b"vector answer\n");
-    answer_each(0, answer_next).print(b" vectors\n");
+    answer_each(0, &mut Vectors).print(b" vectors\n");
 }

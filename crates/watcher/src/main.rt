@@ -7,8 +7,9 @@ mod acting;
 use acting::{act, add_answer};
 use driving::lending::Lent;
 use events::{LONGEST_EVENT, Missing, read_event};
+use port::Port;
 use streams::block::Block;
-use streams::finish::{Finish, STDOUT, Stop, answer_each};
+use streams::finish::{AnswersEach, Finish, STDOUT, Stop, answer_each};
 use text::line::Line;
 
 // How many bytes are read or written at once.
@@ -27,27 +28,47 @@ fn stop_at(missing: Missing) -> Stop {
     }
 }
 
-fn answer_all() -> Finish {
-    let mut lent = Lent::new(0);
-    let mut port = lent.begin();
-    let mut input = Block::<BLOCK>::new();
-    let mut lines = Line::<BLOCK>::new();
-    let finish = answer_each(0, |number| -> Result<(), Stop> {
-        input.refill(LONGEST_EVENT);
-        lines.make_room(LONGEST_LINE);
-        let bytes = input.unread();
+// What stays from event to event.
+#[derive(Drop)]
+struct Watcher<'a> {
+    port: Port,
+    lent: &'a mut Lent,
+    input: &'a mut Block<BLOCK>,
+    lines: &'a mut Line<BLOCK>,
+}
+
+impl AnswersEach for Watcher<'_> {
+    fn answer(&mut self, number: u64) -> Result<(), Stop> {
+        self.input.refill(LONGEST_EVENT);
+        self.lines.make_room(LONGEST_LINE);
+        let bytes = self.input.unread();
         let (event, length) = read_event(bytes).map_err(stop_at)?;
         let answer = act(
-            port,
-            &mut lent,
+            self.port,
+            self.lent,
             event,
             bytes.get(1..length).unwrap_or(bytes),
         );
-        port = answer.port;
-        input.take(length);
-        add_answer(&mut lines, number, answer);
+        self.port = answer.port;
+        self.input.take(length);
+        add_answer(self.lines, number, answer);
         Ok(())
-    });
+    }
+}
+
+fn answer_all() -> Finish {
+    let mut lent = Lent::new(0);
+    let port = lent.begin();
+    let mut lines = Line::<BLOCK>::new();
+    let finish = answer_each(
+        0,
+        &mut Watcher {
+            port,
+            lent: &mut lent,
+            input: &mut Block::<BLOCK>::new(),
+            lines: &mut lines,
+        },
+    );
     lines.print();
     finish
 }

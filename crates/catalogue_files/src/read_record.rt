@@ -37,7 +37,7 @@ fn add_found(line: &mut Line, found: Result<Whole, Missing>, offset: usize) {
 
 // Reads the file and prints its line. Before the file stand the offset and the file's length, which are read at once.
 pub fn answer(number: u64) -> Result<(), Stop> {
-    let [offset, offset_high, length, length_high] = read_bytes()?;
+    let [offset, offset_high, length, length_high] = read_bytes::<4>()?;
     let offset = usize::from(u16::from_le_bytes([offset, offset_high]));
     let mut buffer = [0u8; MOST_BYTES];
     let bytes = read_file(u16::from_le_bytes([length, length_high]), &mut buffer)?;

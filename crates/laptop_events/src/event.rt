@@ -67,7 +67,7 @@ fn take_message(message: &mut [u8]) -> Result<Event<'_>, Stop> {
 
 // All three are read at once.
 fn take_lengths() -> Result<Lengths, Stop> {
-    let [output, run, run_high, held_run, held_run_high] = read_bytes()?;
+    let [output, run, run_high, held_run, held_run_high] = read_bytes::<5>()?;
     Ok(Lengths {
         output,
         run: length_in(u16::from_le_bytes([run, run_high]), RUN),

@@ -13,7 +13,7 @@ use events::Call;
 use messages::Refusal;
 use port::{Accepted, Port, Refused, Side, write_catalogue};
 
-// A message that is lent so many words of the runs.
+// What a message gave that is lent so many words of the runs, which are handed over whole: their other words stay.
 fn hear_within(
     port: Port,
     side: Side,

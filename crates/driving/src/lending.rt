@@ -13,7 +13,7 @@ use events::Call;
 use messages::Refusal;
 use port::{Accepted, Port, Refused, Side, write_catalogue};
 
-// What a message gave that is lent so many words of the runs, which are handed over whole: their other words stay.
+// What a message gave that is lent only the first words of the two runs.
 fn hear_within(
     port: Port,
     side: Side,

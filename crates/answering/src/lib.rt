@@ -6,7 +6,7 @@ ghost use Rattle.dock.specs.Dock.{give_identity, give_page, give_modes, give_oth
 ghost use Rattle.dock.specs.Step.{stepped};
 
 use dock::{Accepted, Dock, Policy, Standing, send, send_bare};
-use messages::{ACK, BUSY, IDENTITY, MODES, NAK, Refusal, Request, SVIDS, first};
+use messages::{ACK, BUSY, IDENTITY, MODES, NAK, Refusal, Request, SVIDS, first, same_request};
 use pages::make_page;
 
 fn give_identity(dock: Dock, request: Request, out: &mut [u8]) -> Result<Accepted, Refusal>
@@ -95,7 +95,10 @@ pub fn policy_answer(
 ) -> Result<Accepted, Refusal>
     ensures { Stepped dock (decide_policy_answer dock dock.standing policy request objects.now) out.old (stepped dock result) out.new }
 {
-    if dock.standing != Standing::Asking(request) {
+    let Standing::Asking(asked) = dock.standing else {
+        return Err(Refusal::NotNow);
+    };
+    if !same_request(asked, request) {
         return Err(Refusal::NotNow);
     }
     match policy {

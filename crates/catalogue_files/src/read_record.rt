@@ -1,7 +1,6 @@
 // The record at an offset of a file.
 use crate::file::{Line, MOST_BYTES, add_numbers, read_file};
-use messages::Refusal;
-use records::{Missing, Record, Whole, record_from};
+use records::{Missing, Record, Whole, fault_of, record_from};
 use streams::finish::Stop;
 use streams::input::read_bytes;
 
@@ -31,7 +30,7 @@ fn add_found(line: &mut Line, found: Result<Whole, Missing>, offset: usize) {
             add_numbers(line, &[offset.wrapping_add(whole.length)]);
         }
         Err(Missing::Nothing) => line.text(b" nothing"),
-        Err(missing) => line.field(u8::from(Refusal::from(missing))),
+        Err(_) => line.field(fault_of(found)),
     }
 }
 

@@ -12,7 +12,7 @@ use crate::numbers::side_from;
 use crate::port_state::port_from;
 use crate::port_writing::write_port;
 use crate::told::hand_over;
-use port::{seen, stepped_on};
+use port::{given_on, seen};
 
 // A fresh laptop, on both sides.
 pub fn laptop_fresh(
@@ -91,7 +91,7 @@ pub fn laptop_message(
         held_run,
         entered,
     );
-    let given = stepped_on(side_from(side), port_from(state), heard);
+    let given = given_on(side_from(side), port_from(state), heard);
     hand_over(given, state, handed)
 }
 

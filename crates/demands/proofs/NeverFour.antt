@@ -10,11 +10,17 @@ use lib.ListN.{length}
 use Rattle.messages.specs.Layout.{ack, busy, Message}
 use Rattle.messages.specs.Reading.{Outcome, accepted, refused, read_outcome, shown, read_number}
 use Rattle.messages.specs.Writing.{write_refusal}
+use Rattle.messages.specs.Editions.{edition_named}
+use Rattle.messages.specs.Refusals.{number_in}
+use Rattle.messages.specs.declared.edition.Edition.{Edition}
+use Rattle.messages.specs.declared.refusal.Refusal.TheVariants.{WrongShape}
+use Rattle.messages.proofs.Numbers.{four_none}
 use Rattle.messages.proofs.Reserved.{read_never_4, write_never_4}
 use Rattle.pages.specs.Lists.{most_svids}
 use Rattle.taking.specs.declared.Verdict.{Verdict}
 use Rattle.taking.specs.declared.Verdict.TheVariants.{Bad, Repeat, More, Ends}
-use Rattle.std.specs.Prelude.{Some, None}
+use Rattle.std.specs.Option.{ok_or}
+use Rattle.std.specs.Prelude.{Option, Some, None}
 use Rattle.dock.specs.Data.{with_edition}
 use Rattle.dock.specs.Dock.{reply, sending}
 use Rattle.dock.specs.Dock.{sends as dock_sends}
@@ -36,6 +42,7 @@ use Rattle.answers.specs.Answers.{Storing, store_modes, hear_modes}
 use Rattle.records.specs.Records.{found_number}
 use Rattle.records.specs.Records.{Found}
 use Rattle.records.specs.Records.{Whole, Unknown, Cut, Nothing}
+use Rattle.records.specs.Refused.{refusal_for}
 use Rattle.judging.specs.Judging.{judgement_of}
 use Rattle.catalogue_laws.proofs.Given.{only_these}
 use Rattle.rebuilding.specs.Rebuilding.{read_as}
@@ -44,12 +51,16 @@ use Rattle.stretches.specs.Stretches.{stretch_in}
 use Rattle.stretches.proofs.Laws.{only_these as stretch_only_these}
 use Rattle.mending.specs.Mending.{no_identity, short_buffer, mended_number, mending_of}
 use Rattle.mending.proofs.Laws.{number_given_lem as mending_number_given}
-use Rattle.demands.specs.Numbers.{AnyCall, reads, writes, writes_numbered, of_dock, of_laptop, of_port, writes_catalogue, tells_fault, judges, reads_catalogue, finds_stretch, mends, sends_answer, refuses_owner, asks_for, hears_identity, hears_svids, hears_modes, hears_mode, number_given}
+use Rattle.demands.specs.Numbers.{AnyCall, reads, writes, writes_numbered, names, of_dock, of_laptop, of_port, writes_catalogue, tells_fault, tells_missing, judges, reads_catalogue, finds_stretch, mends, sends_answer, refuses_owner, asks_for, hears_identity, hears_svids, hears_modes, hears_mode, number_given}
 
 read_not_4 : (o : Outcome) → (o ≡ refused 4 → ⊥) → read_number (shown o).outcome ≡ 4 → ⊥
 unfolding shown
 read_not_4 (accepted at m) none e = omega arith
 read_not_4 (refused number) none e = none (ap refused e)
+
+edition_not_4 : (named : Option Edition) → number_in (ok_or named WrongShape) ≡ 4 → ⊥
+edition_not_4 None e = omega arith
+edition_not_4 (Some at) e = omega arith
 
 found_not_4 : (found : Found) → found_number found ≡ 4 → ⊥
 found_not_4 (Whole r n) e = omega arith
@@ -129,11 +140,13 @@ never_four (reads bytes) = read_not_4 (read_outcome bytes) (read_never_4 bytes)
 never_four (writes m out) = write_never_4 m (length out)
 never_four (writes_numbered None m out) = λ e. omega arith
 never_four (writes_numbered (Some at) m out) = write_never_4 m (length out)
+never_four (names number) = edition_not_4 (edition_named number)
 never_four (of_dock c d out) = dock_never_four c d out
 never_four (of_laptop c l m out) = laptop_never_four c l m out
 never_four (of_port c p m out) = port_never_four c p m out
 never_four (writes_catalogue held words out) = catalogue_never_four held words (length out)
 never_four (tells_fault found) = found_not_4 found
+never_four (tells_missing missing) = four_none (refusal_for missing)
 never_four (judges bytes) = file_not_4 (judgement_of bytes).refusal (only_these bytes)
 never_four (reads_catalogue bytes words) = beside_not_4 (read_as words (judgement_of bytes)).refusal 11 (reading_only_these bytes words) (λ z. omega arith)
 never_four (mends bytes out) = mends_not_4 bytes (mended_number (mending_of bytes out).0) (mending_number_given bytes out)

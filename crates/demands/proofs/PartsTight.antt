@@ -1,5 +1,5 @@
 -- Each public function that is a part of the calls: two results that its promise allows are equal, with all that is lent afterwards.
-use mathlib.Core.Path.{◌≡◌}
+use mathlib.Core.Path.{◌≡◌, refl}
 use mathlib.Core.Bool.{Bool}
 use mathlib.Core.List.{List}
 use Prim.Native.Nat.{ℕ, ◌-◌}
@@ -10,11 +10,14 @@ use Rattle.laws.specs.Lent.{Lent, left, leaving}
 use Rattle.laws.proofs.Tight.{one_value}
 use Rattle.messages.specs.Editions.{edition_number, edition_named, lower}
 use Rattle.messages.specs.Layout.{Message, bytes_of_object}
-use Rattle.messages.specs.Reading.{read_number}
+use Rattle.messages.specs.Reading.{read_number, as_shown}
+use Rattle.messages.specs.Refusals.{number_in}
 use Rattle.messages.specs.Requests.{request_of, head_for, same_request}
 use Rattle.messages.specs.Writing.{WrittenBy}
 use Rattle.messages.specs.declared.edition.Edition.{Edition}
-use Rattle.std.specs.Prelude.{Option, Some, None}
+use Rattle.messages.specs.declared.Received.{Received}
+use Rattle.messages.specs.declared.refusal.Refusal.{Refusal}
+use Rattle.std.specs.Prelude.{Option, Some, None, Result, Ok, Err}
 use Rattle.messages.proofs.Laws.{write_only}
 use Rattle.messages.specs.Table.{shape}
 use Rattle.messages.specs.declared.Head.{Head}
@@ -37,6 +40,11 @@ use Rattle.demands.proofs.LaptopTight.{One, OneWith}
 -- messages
 pub number_only : (outcome : ReadAs) → One (λ (number : ℕ). number ≡ read_number outcome)
 number_only outcome = λ result other. one_value
+
+-- it is the number of what reading gives
+pub number_shown : (r : Result Received Refusal) → read_number (as_shown r).outcome ≡ number_in r
+number_shown (Ok received) = refl
+number_shown (Err refusal) = refl
 
 pub shape_only : (h : Head) (count : ℕ) → One (λ (good : Bool). good ≡ shape h count)
 shape_only h count = λ result other. one_value
@@ -68,8 +76,15 @@ numbered_only (Some e) m out number number' after after' w w' = write_only e m o
 pub bytes_of_only : (object : ℕ) → One (λ (bytes : List ℕ). bytes ≡ bytes_of_object object)
 bytes_of_only object = λ result other. one_value
 
+-- the first of some items, and the item at a place, of any type
+pub first_only : {A : Type 0} (n : ℕ) (items : List A) → One (λ (first : List A). first ≡ take n items)
+first_only n items = λ result other. one_value
+
+pub item_or_only : {A : Type 0} (items : List A) (place : ℕ) (other : A) → One (λ (item : A). item ≡ get_or items place other)
+item_or_only items place other = λ result instead. one_value
+
 pub first_objects_only : (n : ℕ) (objects : List ℕ) → One (λ (first : List ℕ). first ≡ take n objects)
-first_objects_only n objects = λ result other. one_value
+first_objects_only n objects = first_only n objects
 
 -- the laptop's steps
 module _ (l : Laptop) where
@@ -102,7 +117,7 @@ pub place_of_only : (svid : ℕ) (list : List ℕ) → One (λ (place : ℕ). pl
 place_of_only svid list = λ result other. one_value
 
 pub number_at_only : (numbers : List ℕ) (place : ℕ) → One (λ (number : ℕ). number ≡ get_or numbers place 0)
-number_at_only numbers place = λ result other. one_value
+number_at_only numbers place = item_or_only numbers place 0
 
 pub modes_number_only : (modes : List ℕ) (place : ℕ) → One (λ (number : ℕ). number ≡ modes_number modes place)
 modes_number_only modes place = λ result other. one_value

@@ -1,9 +1,11 @@
 -- What the code gives back is known by what a definition shows of it: two results that are shown alike are equal. The
 -- dock's law is `stepped_once` of dock, that of a reading `read_only` of messages.
+use mathlib.Core.List.{List}
 use mathlib.Core.Path.{◌≡◌, refl, ap, sym}
 use Prim.Native.Nat.{ℕ}
+use denote.Ref.{Bor}
 use Rattle.std.specs.Prelude.{Result, Ok, Err}
-use Rattle.messages.specs.Refusals.{number_of}
+use Rattle.messages.specs.Refusals.{number_of, number_in}
 use Rattle.messages.specs.declared.refusal.Refusal.{Refusal}
 use Rattle.messages.proofs.Numbers.{number_once, numbered}
 use Rattle.laptop.specs.declared.Accepted.{Accepted}
@@ -19,9 +21,11 @@ use Rattle.judging.specs.declared.walk.Walk.{Walk}
 use Rattle.judging.specs.declared.Stopped.{Stopped}
 use Rattle.judging.specs.Faults.{judged_as}
 use Rattle.judging.specs.Judging.{Judged}
-use Rattle.stretches.specs.Shown.{place_as}
-use Rattle.stretches.specs.Stretches.{Place}
+use Rattle.stretches.specs.Shown.{place_as, stretch_as}
+use Rattle.stretches.specs.Stretches.{Place, Stretched}
 use Rattle.stretches.specs.declared.Place.{Place as PlaceFound}
+use Rattle.stretches.specs.declared.Stretch.{Stretch as StretchFound}
+use Rattle.stretches.proofs.Laws.{stretch_only}
 use Rattle.rebuilding.specs.Shown.{rebuilt_as}
 use Rattle.rebuilding.specs.Rebuilding.{Rebuilt}
 use Rattle.rebuilding.specs.declared.Rebuilt.{Rebuilt as RebuiltFound}
@@ -37,6 +41,13 @@ use Rattle.records.specs.declared.missing.Missing.{Missing}
 use Rattle.records.specs.declared.missing.Missing.TheVariants.{Unknown as MissingUnknown}
 use Rattle.records.specs.declared.missing.Missing.TheVariants.{Cut as MissingCut}
 use Rattle.records.specs.declared.missing.Missing.TheVariants.{Nothing as MissingNothing}
+
+-- a call that gives nothing but its refusal
+pub refusal_once : (r r' : Result (Unit {0}) Refusal) → number_in r ≡ number_in r' → r ≡ r'
+refusal_once (Ok a) (Ok b) e = refl
+refusal_once (Ok a) (Err q) e = absurd (numbered q (sym e))
+refusal_once (Err p) (Ok b) e = absurd (numbered p e)
+refusal_once (Err p) (Err q) e = ap Err (number_once p q e)
 
 -- a call of a laptop of 01
 pub stepped_once : (r r' : Result Accepted Refused) → stepped r ≡ stepped r' → r ≡ r'
@@ -99,6 +110,22 @@ place_once (Ok a) (Ok b) e =
 place_once (Ok a) (Err q) e = absurd (numbered q.refusal (sym (ap (λ (s : Place). s.refusal) e)))
 place_once (Err p) (Ok b) e = absurd (numbered p.refusal (ap (λ (s : Place). s.refusal) e))
 place_once (Err p) (Err q) e = ap Err (fault_once p q (ap (λ (s : Place). s.refusal) e) (ap (λ (s : Place). s.at) e))
+
+-- a stretch's part lies in the caller's bytes, so its promise is the one that says which it is
+pub stretch_once : (bytes : Bor (List ℕ)) (svid : ℕ) (r r' : Result StretchFound Fault) → Stretched bytes svid (stretch_as bytes r) →
+    Stretched bytes svid (stretch_as bytes r') → r ≡ r'
+stretch_once bytes svid (Ok a) (Ok b) s s' =
+    let same = stretch_only bytes svid (stretch_as bytes (Ok a)) (stretch_as bytes (Ok b)) s s' in
+    λ i. Ok (record { part = record { ref_ptr = same.3 i; now = same.2 i }; at = same.1 i })
+stretch_once bytes svid (Ok a) (Err q) s s' =
+    let same = stretch_only bytes svid (stretch_as bytes (Ok a)) (stretch_as bytes (Err q)) s s' in
+    absurd (numbered q.refusal (sym same.0))
+stretch_once bytes svid (Err p) (Ok b) s s' =
+    let same = stretch_only bytes svid (stretch_as bytes (Err p)) (stretch_as bytes (Ok b)) s s' in
+    absurd (numbered p.refusal same.0)
+stretch_once bytes svid (Err p) (Err q) s s' =
+    let same = stretch_only bytes svid (stretch_as bytes (Err p)) (stretch_as bytes (Err q)) s s' in
+    ap Err (fault_once p q same.0 same.1)
 
 pub rebuilt_once : (r r' : Result RebuiltFound Fault) → rebuilt_as r ≡ rebuilt_as r' → r ≡ r'
 rebuilt_once (Ok a) (Ok b) e =

@@ -96,9 +96,6 @@ module _ (d : Dock) (o : Outcome) where
 pub same_itself : (r : Request) → same_request r r ≡ true
 same_itself r = grind arith
 
-not_same : (a r : Request) → (a ≡ r → ⊥) → same_request a r ≡ false
-not_same a r k = grind arith
-
 pub empty_none : (l : List ℕ) → length l ≡ 0 → is_empty l ≡ true
 empty_none [] h = refl
 empty_none (x ∷ l) h = absurd (omega arith)
@@ -176,20 +173,22 @@ module _ (d : Dock) (r : Request) where
       declined_bare h = let z : length objects ≡ 0 = omega arith in rw (empty_none objects z)
 
     module _ (policy : Policy) (s : Standing) where
-      pub answer_policy : s ≡ Asking r → (p : Policy) → policy ≡ p → decide_policy_answer d s policy r objects ≡ decide_policy d p r objects
-      unfolding decide_policy_answer
-      answer_policy e p ep =
-          ap (λ (x : Standing). decide_policy_answer d x policy r objects) e ∙
-          rw (same_itself r) (ap (λ (x : Policy). decide_policy d x r objects) ep)
+      module _ (a : Request) (e : s ≡ Asking a) where
+        pub answer_other : same_request a r ≡ false → decide_policy_answer d s policy r objects ≡ refuses 9
+        unfolding decide_policy_answer
+        answer_other n = ap (λ (x : Standing). decide_policy_answer d x policy r objects) e ∙ rw n
 
-      pub answer_other : (s ≡ Asking r → ⊥) → decide_policy_answer d s policy r objects ≡ refuses 9
-      unfolding decide_policy_answer
-      answer_other k = go s k
-        where
-          go : (x : Standing) → (x ≡ Asking r → ⊥) → decide_policy_answer d x policy r objects ≡ refuses 9
-          go Ready k = refl
-          go (Sending is_page) k = refl
-          go (Asking a) k = rw (not_same a r (λ (e : a ≡ r). k (ap Asking e))) refl
+        pub answer_policy : same_request a r ≡ true → (p : Policy) → policy ≡ p → decide_policy_answer d s policy r objects ≡ decide_policy d p r objects
+        unfolding decide_policy_answer
+        answer_policy y p ep =
+            ap (λ (x : Standing). decide_policy_answer d x policy r objects) e ∙ rw y (ap (λ (x : Policy). decide_policy d x r objects) ep)
+
+pub answer_standing : (d : Dock) (r : Request) (objects : List ℕ) (policy : Policy) (s : Standing) → ((a : Request) → s ≡ Asking a → ⊥) →
+    decide_policy_answer d s policy r objects ≡ refuses 9
+unfolding decide_policy_answer
+answer_standing d r objects policy Ready k = refl
+answer_standing d r objects policy (Asking a) k = absurd (k a refl)
+answer_standing d r objects policy (Sending is_page) k = refl
 
 -- "sent" and "failed"
 module _ (d : Dock) where

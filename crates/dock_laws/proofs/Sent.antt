@@ -19,7 +19,7 @@ use Rattle.dock.specs.declared.Policy.{Policy}
 use Rattle.dock.specs.declared.Policy.TheVariants.{Give}
 use Rattle.dock.specs.declared.Standing.{Standing}
 use Rattle.dock.specs.declared.Standing.TheVariants.{Ready, Asking, Sending}
-use Rattle.dock.proofs.Decisions.{identity_given, page_none, page_given, other_identity, other_svids, other_bare, modes_given, give_modes_lem, give_other_lem, declined_bare, answer_policy}
+use Rattle.dock.proofs.Decisions.{identity_given, page_none, page_given, other_identity, other_svids, other_bare, modes_given, give_modes_lem, give_other_lem, declined_bare, answer_policy, same_itself}
 use Rattle.dock_laws.specs.Given.{BringsWrong, not_1_to_6, brings_some, no_identity, AnswerIs, gives_identity, gives_page, gives_empty_list, gives_modes, gives_other, says_nak, says_busy, HasToSend}
 use Rattle.dock_laws.proofs.Fates.{gives, three_to_six, Fate, wrong, right, policy_fate, wrong_refused}
 use Rattle.dock_laws.proofs.Limits.{outside}
@@ -42,7 +42,7 @@ sent_by other (sends m next) = m
 module _ (d : Dock) (policy : Policy) (r : Request) (objects : List ℕ) where
   -- to the request that waits it is as policy says, and no other has an answer
   pub to_policy : d.standing ≡ Asking r → decide_policy_answer d d.standing policy r objects ≡ decide_policy d policy r objects
-  to_policy waits = answer_policy d r objects policy d.standing waits policy refl
+  to_policy waits = answer_policy d r objects policy d.standing r waits (same_itself r) policy refl
 
   module _ (m : Message) where
     waits_for : (next : Dock) → decide_policy_answer d d.standing policy r objects ≡ sends m next → d.standing ≡ Asking r

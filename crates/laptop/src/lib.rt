@@ -8,6 +8,7 @@
 // modes of each held SVID, a bit for each position; and the two runs of mode words.
 mod calls;
 mod marks;
+mod numbered;
 mod places;
 
 pub use calls::{accept, dropped, ended, fresh, refuse, short_runs};
@@ -78,6 +79,15 @@ pub struct Accepted {
 #[derive(Clone, Copy)]
 pub struct Refused {
     pub refusal: Refusal,
+    pub laptop: Laptop,
+}
+
+// The same by its numbers: the refusal is any number, 0 for none.
+#[derive(Clone, Copy)]
+pub struct Step {
+    pub refusal: u8,
+    pub length: u8,
+    pub told: Told,
     pub laptop: Laptop,
 }
 

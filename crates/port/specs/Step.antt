@@ -1,20 +1,15 @@
 -- What a call gives back, by 01's numbers: the refusal, 0 for none; how many bytes of the output buffer are to be sent;
 -- what policy is told, and of which side; and the new state.
-use Rattle.std.specs.Prelude.{ℕ, Result, Ok, Err}
+use Rattle.std.specs.Prelude.{Result, Ok, Err}
 use Rattle.messages.specs.Refusals.{number_of}
-use Rattle.laptop.specs.declared.Told.{Told}
 use Rattle.laptop.specs.declared.Told.TheVariants.{Nothing}
 use Rattle.port.specs.declared.Accepted.{Accepted}
-use Rattle.port.specs.declared.Port.{Port}
 use Rattle.port.specs.declared.Refused.{Refused}
-use Rattle.port.specs.declared.Side.{Side}
+use Rattle.port.specs.declared.Step.{Step as DeclaredStep}
 
-pub record Step : Type 0 where
-  pub refusal : ℕ
-  pub length : ℕ
-  pub told : Told
-  pub side : Side
-  pub port : Port
+-- the type of that name in the code
+abbrev pub Step : Type 0
+Step = DeclaredStep
 
 -- how the code gives it back
 abbrev pub stepped : Result Accepted Refused → Step

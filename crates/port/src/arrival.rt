@@ -4,7 +4,7 @@ ghost use Rattle.port.specs.Step.{stepped};
 ghost use Rattle.laptop.specs.State.{memory_lent};
 ghost use Rattle.laws.specs.Lent.{lent};
 
-use crate::sides::{seen, stepped_on};
+use crate::sides::{given_on, seen};
 use crate::{Accepted, Port, Refused, Side};
 
 // Whatever the other side awaits, it is a message of document 01 on its own side.
@@ -37,5 +37,5 @@ pub fn message(
         held_run,
         entered,
     );
-    stepped_on(side, port, heard)
+    given_on(side, port, heard)
 }

@@ -18,7 +18,7 @@ use laptop::{Candidate, Size, Told};
 use messages::{Edition, Refusal, Request};
 pub use owners::{drop, enter, exit, next, start_over};
 pub use readings::{report, write_catalogue};
-pub use sides::{seen, stepped_on};
+pub use sides::{given_on, seen, stepped_on};
 pub use waiting::{entry_timer, exit_timer, protocol_error, response_timer};
 
 // The port partner, or the near cable plug.
@@ -63,6 +63,16 @@ pub struct Accepted {
 #[derive(Clone, Copy)]
 pub struct Refused {
     pub refusal: Refusal,
+    pub side: Side,
+    pub port: Port,
+}
+
+// The same by its numbers: the refusal is any number, 0 for none.
+#[derive(Clone, Copy)]
+pub struct Step {
+    pub refusal: u8,
+    pub length: u8,
+    pub told: Told,
     pub side: Side,
     pub port: Port,
 }

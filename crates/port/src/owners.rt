@@ -6,7 +6,7 @@ ghost use Rattle.owner.specs.Owner.{decide_next, decide_start_over, decide_drop,
 ghost use Rattle.port.specs.Calls.{owners_refusal, OwnersLaptop, Owners};
 ghost use Rattle.port.specs.Step.{stepped};
 
-use crate::sides::{seen, stepped_on};
+use crate::sides::{given_on, seen};
 use crate::{Accepted, Port, Refused, Side};
 use laptop::{Laptop, short_runs};
 use messages::Refusal;
@@ -53,7 +53,7 @@ pub fn next(
     ensures { Owners side port (λ l. decide_next l svids.now entered.now (length run.now) (length held_run.now)) run.now held_run.now out.old (stepped result) out.new }
 {
     let laptop = owners_laptop(port, side, run, held_run)?;
-    stepped_on(
+    given_on(
         side,
         port,
         owner::next(laptop, svids, entered, run, held_run, out),
@@ -72,7 +72,7 @@ pub fn start_over(
     ensures { Owners side port (λ l. decide_start_over l entered.now (length run.now) (length held_run.now)) run.now held_run.now out.old (stepped result) out.new }
 {
     let laptop = owners_laptop(port, side, run, held_run)?;
-    stepped_on(
+    given_on(
         side,
         port,
         owner::start_over(laptop, entered, run, held_run, out),
@@ -90,7 +90,7 @@ pub fn drop(
     ensures { Owners side port (λ l. decide_drop l (length run.now) (length held_run.now)) run.now held_run.now out.old (stepped result) out.new }
 {
     let laptop = owners_laptop(port, side, run, held_run)?;
-    stepped_on(side, port, owner::drop(laptop, run, held_run, out))
+    given_on(side, port, owner::drop(laptop, run, held_run, out))
 }
 
 pub fn enter(
@@ -113,7 +113,7 @@ pub fn enter(
     let entering = modes::enter(
         laptop, svid, position, held_svids, held_modes, entered, run, held_run, out,
     );
-    stepped_on(side, port, entering)
+    given_on(side, port, entering)
 }
 
 pub fn exit(
@@ -136,5 +136,5 @@ pub fn exit(
     let exiting = modes::exit(
         laptop, svid, position, held_svids, held_modes, entered, run, held_run, out,
     );
-    stepped_on(side, port, exiting)
+    given_on(side, port, exiting)
 }

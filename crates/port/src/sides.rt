@@ -6,7 +6,7 @@ ghost use Rattle.port.specs.Sides.{seen as Sides·seen};
 ghost use Rattle.port.specs.Sides.{stepped_on as Sides·stepped_on};
 ghost use Rattle.port.specs.Step.{stepped};
 
-use crate::{Accepted, Own, Port, Refused, Side};
+use crate::{Accepted, Own, Port, Refused, Side, Step};
 use laptop::Laptop;
 use messages::Request;
 
@@ -115,7 +115,7 @@ fn laptop_in(given: Result<laptop::Accepted, laptop::Refused>) -> Laptop
 // What a call of document 01 on a side gave, as the port's. A part of its callers, and the laptop is put back at one
 // place: else it costs them 238 bytes of stack.
 #[inline(always)]
-pub fn stepped_on(
+pub fn given_on(
     side: Side,
     port: Port,
     given: Result<laptop::Accepted, laptop::Refused>,
@@ -135,5 +135,18 @@ pub fn stepped_on(
             side,
             port,
         }),
+    }
+}
+
+// The same by its numbers, whatever these are. For callers outside that have them: no crate here calls this.
+pub fn stepped_on(side: Side, port: Port, step: laptop::Step) -> Step
+    ensures { result ≡ Sides·stepped_on side port step }
+{
+    Step {
+        refusal: step.refusal,
+        length: step.length,
+        told: step.told,
+        side,
+        port: put_back(side, step.laptop, port),
     }
 }

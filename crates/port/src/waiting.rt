@@ -7,7 +7,7 @@ ghost use Rattle.port.specs.Sides.{stepped_on as Sides·stepped_on};
 ghost use Rattle.port.specs.Sides.{seen as Sides·seen};
 ghost use Rattle.port.specs.Step.{stepped};
 
-use crate::sides::{seen, stepped_on};
+use crate::sides::{given_on, seen};
 use crate::{Accepted, Port, Refused, Side};
 use laptop::Laptop;
 
@@ -31,7 +31,7 @@ fn concerning<F: FnOnce(Laptop) -> Result<laptop::Accepted, laptop::Refused>>(
         × (stepped result ≡ Sides·stepped_on (waiting_side port.wait) port (Laptop·stepped given)) }
 {
     let side = waiting_side(port);
-    stepped_on(side, port, call(seen(side, port)))
+    given_on(side, port, call(seen(side, port)))
 }
 
 // A call for each timer, as the C interface has them.

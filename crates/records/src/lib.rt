@@ -9,7 +9,7 @@ ghost use Rattle.catalogue.specs.Bytes.{svid_kind, mode_kind, end_kind};
 ghost use Rattle.records.specs.Records.{is_identity, found_in, found_at};
 ghost use Rattle.records.specs.Shown.{as_found};
 
-pub use missing::Missing;
+pub use missing::{Missing, fault_of};
 pub use reader::{Reader, record_from};
 use reading::object_at;
 

@@ -25,11 +25,11 @@ pub fn same(a: &[u16], b: &[u16]) -> bool
     a == b
 }
 
-#[tactic(auto, using(crate::proofs::Judging::repeat_steps))]
+#[tactic(auto, unfolding(crate::specs::Taking::is_repeat))]
 fn is_repeat(list: &[u16], values: &[u16]) -> bool
     ensures { result ≡ is_repeat list.now values.now }
 {
-    values.len() == PER_PAGE && list.ends_with(values)
+    PER_PAGE <= list.len() && same(&list[list.len() - PER_PAGE..], values)
 }
 
 // How many values stand before the first zero.

@@ -12,4 +12,4 @@ returns-in_err-laptop c =
     rw e (owners_refused c.args.side c.args.port _ _ _ _ c.in_err-laptop.ensures)
 
 pub returns : goal.returns
-returns c = owners_decided c.args.side c.args.port _ _ _ c.in_ok-laptop.ensures c.next.ensures c.stepped_on.ensures
+returns c = owners_decided c.args.side c.args.port _ _ _ c.in_ok-laptop.ensures c.next.ensures c.given_on.ensures

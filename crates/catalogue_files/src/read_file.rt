@@ -74,8 +74,16 @@ fn add_stretch(line: &mut Line, bytes: &[u8], svid: u16) {
 // Reads the file and prints its line. Before the file stand the words that are lent, the SVID, the bytes that are lent
 // and the file's length, which are read at once.
 pub fn answer(number: u64) -> Result<(), Stop> {
-    let [run, run_high, svid, svid_high, room, room_high, length, length_high] =
-        read_bytes::<8>()?;
+    let [
+        run,
+        run_high,
+        svid,
+        svid_high,
+        room,
+        room_high,
+        length,
+        length_high,
+    ] = read_bytes::<8>()?;
     let words = usize::from(u16::from_le_bytes([run, run_high]));
     let room = usize::from(u16::from_le_bytes([room, room_high]));
     let mut buffer = [0u8; MOST_BYTES];

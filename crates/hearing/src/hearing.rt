@@ -9,7 +9,7 @@ use crate::awaited::hear_answer;
 use laptop::{
     Accepted, Candidate, Laptop, Notice, Refused, Told, accept, dropped, refuse, short_runs,
 };
-use messages::{ACK, ATTENTION, Head, REQ, Refusal, Request, SVIDS, same_request};
+use messages::{ACK, ATTENTION, Head, REQ, Refusal, Request, SVIDS};
 
 fn notice_of(head: Head, count: u8, object: u32) -> Notice
     ensures { result ≡ notice_of head count object }
@@ -38,7 +38,7 @@ fn hear_request(laptop: Laptop, head: Head, count: u8, object: u32) -> Result<Ac
 fn fits(wait: Option<Request>, head: Head) -> bool
     ensures { result ≡ Hearing·fits wait head }
 {
-    wait.is_some_and(|request| same_request(request, Request::from(head)))
+    wait == Some(Request::from(head))
 }
 
 // A page that nobody awaits may have been confirmed.

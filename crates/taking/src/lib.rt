@@ -25,11 +25,11 @@ pub fn same(a: &[u16], b: &[u16]) -> bool
     a == b
 }
 
-#[tactic(auto, unfolding(crate::specs::Taking::is_repeat))]
+#[tactic(auto, using(crate::proofs::Judging::repeat_steps))]
 fn is_repeat(list: &[u16], values: &[u16]) -> bool
     ensures { result ≡ is_repeat list.now values.now }
 {
-    PER_PAGE <= list.len() && same(&list[list.len() - PER_PAGE..], values)
+    values.len() == PER_PAGE && list.ends_with(values)
 }
 
 // How many values stand before the first zero.

@@ -7,11 +7,12 @@ use Rattle.laws.proofs.Tight.{one_value}
 use Rattle.laptop.specs.Calls.{Decision}
 use Rattle.laptop.specs.Marks.{reported}
 use Rattle.laptop.specs.State.{Memory}
+use Rattle.laptop.specs.Step.{Step as LaptopAsStep}
 use Rattle.laptop.specs.declared.Laptop.{Laptop}
 use Rattle.catalogue.specs.Bytes.{held_catalogue, CatalogueWritten}
 use Rattle.catalogue.proofs.Laws.{write_only}
 use Rattle.port.specs.Calls.{HearsOn, Owners, concerning}
-use Rattle.port.specs.Sides.{own_of, seen, fresh_port}
+use Rattle.port.specs.Sides.{own_of, seen, stepped_on, fresh_port}
 use Rattle.port.specs.declared.Port.{Port}
 use Rattle.port.specs.declared.Side.{Side}
 use Rattle.port.specs.Step.{Step}
@@ -34,6 +35,9 @@ module _ (side : Side) (p : Port) where
 
   pub seen_only : One (λ (l : Laptop). l ≡ seen side p)
   seen_only = λ result other. one_value
+
+  pub stepped_on_only : (given : LaptopAsStep) → One (λ (s : Step). s ≡ stepped_on side p given)
+  stepped_on_only given = λ result other. one_value
 
 -- the timers and the protocol error
 pub concerning_only : (decide : Laptop → Decision) (p : Port) → One (λ (s : Step). s ≡ concerning decide p)

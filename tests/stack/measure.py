@@ -16,13 +16,13 @@ PUBLIC = re.compile(r"^pub (?:use \w+::|fn )([a-z]\w*)", re.MULTILINE)
 PARTS = {
     f"{crate}::{name}"
     for crate, names in (
-        ("port", "seen stepped_on"),
+        ("port", "given_on seen stepped_on"),
         ("dock", "refused accepted standing_at spoken_at send send_bare"),
     )
     for name in names.split()
 }
 # A call that an exported function makes part by part.
-MADE_OF = {"port::message": ("hearing::message(", "stepped_on(")}
+MADE_OF = {"port::message": ("hearing::message(", "given_on(")}
 ENDS = ("dock", "loading", "receiving", "answering", "confirming", "port")
 
 

@@ -1,4 +1,5 @@
--- `text::digits::put_digits` meets its contract. The digits so far stand behind the place, and those of the rest fit before it.
+-- `text::digits::put_digits` meets its contract. The digits so far stand behind the place, and those of the rest fit
+-- before it.
 use Rattle.std.proofs.Common.{◌≡◌, ◌+◌, ◌≤◌, ◌++◌, length, drop}
 use Rattle.std.specs.Fmt.{decimal}
 use Rattle.text.proofs.digits.put_digits.Given as goal

@@ -9,7 +9,7 @@ use crate::awaited::hear_answer;
 use laptop::{
     Accepted, Candidate, Laptop, Notice, Refused, Told, accept, dropped, refuse, short_runs,
 };
-use messages::{ACK, ATTENTION, Head, REQ, Refusal, Request, SVIDS};
+use messages::{ACK, ATTENTION, Head, REQ, Refusal, Request, SVIDS, same_request};
 
 fn notice_of(head: Head, count: u8, object: u32) -> Notice
     ensures { result ≡ notice_of head count object }
@@ -35,10 +35,12 @@ fn hear_request(laptop: Laptop, head: Head, count: u8, object: u32) -> Result<Ac
 }
 
 // Does the answer fit the awaited SVID, command and position?
+// Both sides of `&` are worked out: a branch between them takes `laptop_message` over its limit of stack.
 fn fits(wait: Option<Request>, head: Head) -> bool
     ensures { result ≡ Hearing·fits wait head }
 {
-    wait == Some(Request::from(head))
+    let asked = Request::from(head);
+    wait.is_some() & same_request(wait.unwrap_or(asked), asked)
 }
 
 // A page that nobody awaits may have been confirmed.

@@ -18,18 +18,19 @@ pub enum Verdict {
 }
 
 // Are the two lists the same?
-#[tactic(auto, using(crate::proofs::Judging::pointwise_same))]
+// The library's `==` of two slices is a call of its own: it takes `laptop_message` over its limit of stack.
+#[tactic(auto, using(crate::proofs::Judging::same_steps))]
 pub fn same(a: &[u16], b: &[u16]) -> bool
     ensures { result ≡ same_list a.now b.now }
 {
-    a == b
+    a.len() == b.len() && a.ends_with(b)
 }
 
-#[tactic(auto, using(crate::proofs::Judging::repeat_steps))]
+#[tactic(auto, unfolding(crate::specs::Taking::is_repeat))]
 fn is_repeat(list: &[u16], values: &[u16]) -> bool
     ensures { result ≡ is_repeat list.now values.now }
 {
-    values.len() == PER_PAGE && list.ends_with(values)
+    PER_PAGE <= list.len() && same(&list[list.len() - PER_PAGE..], values)
 }
 
 // How many values stand before the first zero.

@@ -76,22 +76,31 @@ impl<const N: usize> Line<N> {
         }
     }
 
+    // Here and below the end is read once: a byte that is written might change it, for all that the compiler knows.
     pub fn byte(&mut self, byte: u8)
         ensures { Said·said self.new ≡ with_text N (Said·said self.old) (byte ∷ []) }
     {
-        if self.end < N {
-            self.bytes[self.end] = byte;
-            self.end += 1;
+        let end = self.end;
+        if end < N {
+            self.bytes[end] = byte;
+            self.end = end + 1;
         }
     }
 
+    // A text that finds room is copied by itself, so that a short one, whose length is known, takes no call.
     pub fn text(&mut self, text: &[u8])
         ensures { Said·said self.new ≡ with_text N (Said·said self.old) text.now }
     {
-        let count = text.len().min(N - self.end);
+        let start = self.end;
+        let room = N - start;
         let bytes = &mut self.bytes[..];
-        bytes[self.end..self.end + count].copy_from_slice(&text[..count]);
-        self.end += count;
+        if text.len() <= room {
+            bytes[start..start + text.len()].copy_from_slice(text);
+            self.end = start + text.len();
+        } else {
+            bytes[start..].copy_from_slice(&text[..room]);
+            self.end = N;
+        }
     }
 
     // Most numbers have one digit, which needs no other place first.

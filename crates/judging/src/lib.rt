@@ -13,7 +13,7 @@ ghost use Rattle.judging.specs.Faults.{judged_as};
 
 pub use fault::{Fault, Stopped};
 use messages::Refusal;
-use records::{Record, record_from};
+use records::{Record, Whole, record_from};
 pub use walk::Walk;
 
 const FRONT: Walk = Walk {
@@ -46,15 +46,20 @@ impl Walk {
         requires { (self.old ≡ front) × (svids.old ≡ noted []) × (numbers.old ≡ noted []) }
         ensures { FileJudged bytes.now (record { refusal = number_in result; walk = self.new }) svids.new numbers.new }
     {
-        // Each record says how far the next one is, so no range or iterator gives the places.
+        // Each record says how far the next one is, so no range or iterator gives the places. What was found is taken
+        // apart in a pattern, and not by `?`: a `Whole` that is copied hides from the compiler which record it has.
         while self.at < bytes.len() {
-            let whole = record_from(bytes, self.at)?;
-            if !self.may_follow(svids, whole.record) {
-                return Err(Refusal::OutOfOrder);
-            }
-            *self = self.passed(whole, svids, numbers);
-            if matches!(whole.record, Record::End) {
-                return end_check(self.at, bytes.len());
+            match record_from(bytes, self.at) {
+                Err(missing) => return Err(Refusal::from(missing)),
+                Ok(Whole { record, length }) => {
+                    if !self.may_follow(svids, record) {
+                        return Err(Refusal::OutOfOrder);
+                    }
+                    *self = self.passed(record, length, svids, numbers);
+                    if matches!(record, Record::End) {
+                        return end_check(self.at, bytes.len());
+                    }
+                }
             }
         }
         Err(Refusal::CutRecord)

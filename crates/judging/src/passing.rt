@@ -4,7 +4,7 @@ ghost use Rattle.judging.specs.Noting.{walk_behind, svids_noted, numbers_noted};
 ghost use Rattle.judging.specs.Walking.{may_follow};
 
 use crate::walk::Walk;
-use records::{Record, Whole};
+use records::Record;
 
 impl Walk {
     #[tactic(auto, unfolding(crate::specs::Noting::walk_behind))]
@@ -64,18 +64,24 @@ impl Walk {
     }
 
     // The record may follow the walk.
-    pub(crate) fn passed(self, whole: Whole, svids: &mut [u16; 72], numbers: &mut [u8; 72]) -> Walk
-        requires { (self.at + whole.length < 2 ^ 64) × (self.count ≤ 72) × (self.modes < 2 ^ 63)
-            × ((list : List ℕ) × (may_follow self list whole.«record» ≡ true)) }
-        ensures { (result ≡ walk_behind self whole.«record» whole.length)
-            × (svids.new ≡ svids_noted self whole.«record» svids.old)
-            × (numbers.new ≡ numbers_noted self whole.«record» numbers.old) }
+    pub(crate) fn passed(
+        self,
+        record: Record,
+        length: usize,
+        svids: &mut [u16; 72],
+        numbers: &mut [u8; 72],
+    ) -> Walk
+        requires { (self.at + length < 2 ^ 64) × (self.count ≤ 72) × (self.modes < 2 ^ 63)
+            × ((list : List ℕ) × (may_follow self list «record» ≡ true)) }
+        ensures { (result ≡ walk_behind self «record» length)
+            × (svids.new ≡ svids_noted self «record» svids.old)
+            × (numbers.new ≡ numbers_noted self «record» numbers.old) }
     {
-        match whole.record {
-            Record::Identity(objects) => self.identified(whole.length, objects),
-            Record::Svid(svid) => self.listed(whole.length, svid, svids, numbers),
-            Record::Mode(_) => self.with_mode(whole.length, numbers),
-            Record::End => self.ended(whole.length),
+        match record {
+            Record::Identity(objects) => self.identified(length, objects),
+            Record::Svid(svid) => self.listed(length, svid, svids, numbers),
+            Record::Mode(_) => self.with_mode(length, numbers),
+            Record::End => self.ended(length),
         }
     }
 }

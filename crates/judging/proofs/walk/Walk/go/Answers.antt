@@ -2,7 +2,6 @@
 use mathlib.Core.Path.{◌≡◌, refl, sym, ◌∙◌}
 use mathlib.Core.Bool.{true, false}
 use native.Mathlib.Omega.{arith}
-use Rattle.std.specs.Prelude.{Err}
 use Rattle.std.proofs.lemmas.Grind.{common_steps}
 use Rattle.records.specs.Refused.{refusal_for}
 use Rattle.judging.specs.Walking.{is_end}
@@ -13,41 +12,41 @@ use Rattle.judging.proofs.walk.Walk.go.Goals.{in-End, in_default}
 pub loop-self-init : goal.loop-self-init
 loop-self-init c = underway_front c.args.bytes.now _ _ _ c.requires.0 c.requires.1 c.requires.2
 
-pub returns-in_err-whole : goal.returns-in_err-whole
-returns-in_err-whole c =
-    let missing = c.in_err-whole.field-0.0 in
-    let e : c.from_residual.result ≡ Err (refusal_for missing) = grind (arith, common_steps) in
-    rw e (stops_unfound c.loop-self.invariant _ c.in_err-whole.ensures (missing_whole missing) _ (missing_number missing) _ refl)
+pub returns-in-Err : goal.returns-in-Err
+returns-in-Err c =
+    let missing = c.in-Err.missing in
+    let e : c.from.result ≡ refusal_for missing = grind (arith, common_steps) in
+    rw e (stops_unfound c.loop-self.invariant _ c.in-Err.ensures (missing_whole missing) _ (missing_number missing) _ refl)
 
 pub returns-then-not-may_follow : goal.returns-then-not-may_follow
 returns-then-not-may_follow c =
-    stops_out_of_order c.loop-self.invariant _ c.in_ok-whole.ensures _ _ refl (sym c.may_follow.ensures ∙ c.if-not-may_follow.true) _ refl
+    stops_out_of_order c.loop-self.invariant _ c.in-Ok.ensures _ _ refl (sym c.may_follow.ensures ∙ c.if-not-may_follow.true) _ refl
 
 pub passed-requires : goal.passed-requires
 passed-requires c =
-    passes c.loop-self.invariant _ c.in_ok-whole.ensures _ _ refl (sym c.may_follow.ensures ∙ c.if-not-may_follow.false) (omega (arith, c.well_formed))
+    passes c.loop-self.invariant _ c.in-Ok.ensures _ _ refl (sym c.may_follow.ensures ∙ c.if-not-may_follow.false) (omega (arith, c.well_formed))
 
 pub returns-then-matches : goal.returns-then-matches
 returns-then-matches c =
     let done = c.passed.ensures in
-    let ends : is_end c.in_ok-whole.whole.record ≡ true =
+    let ends : is_end c.in-Ok.field-0.record ≡ true =
     elim c.match-matches.branch [ in-End w ↦ the_end _ w.in-End.is | in_default w ↦ cc ] in
-    stops_ended c.loop-self.invariant _ c.in_ok-whole.ensures _ _ refl (sym c.may_follow.ensures ∙ c.if-not-may_follow.false) _ _ _
+    stops_ended c.loop-self.invariant _ c.in-Ok.ensures _ _ refl (sym c.may_follow.ensures ∙ c.if-not-may_follow.false) _ _ _
     done.0 done.1 done.2 ends _ c.end_check.ensures _ refl
 
 pub loop-self-smaller : goal.loop-self-smaller
 loop-self-smaller c =
     let done = c.passed.ensures in
-    let near = nearer c.loop-self.invariant _ c.in_ok-whole.ensures _ _ refl (sym c.may_follow.ensures ∙ c.if-not-may_follow.false) _ _ _
+    let near = nearer c.loop-self.invariant _ c.in-Ok.ensures _ _ refl (sym c.may_follow.ensures ∙ c.if-not-may_follow.false) _ _ _
     done.0 done.1 done.2 in
     omega (arith, near.0, near.1)
 
 pub loop-self-preserved : goal.loop-self-preserved
 loop-self-preserved c =
     let done = c.passed.ensures in
-    let goes : is_end c.in_ok-whole.whole.record ≡ false =
+    let goes : is_end c.in-Ok.field-0.record ≡ false =
     elim c.match-matches.branch [ in-End w ↦ cc | in_default w ↦ other_end _ w.in_default.not-End ] in
-    goes_on c.loop-self.invariant _ c.in_ok-whole.ensures _ _ refl (sym c.may_follow.ensures ∙ c.if-not-may_follow.false) _ _ _
+    goes_on c.loop-self.invariant _ c.in-Ok.ensures _ _ refl (sym c.may_follow.ensures ∙ c.if-not-may_follow.false) _ _ _
     done.0 done.1 done.2 goes
 
 pub returns : goal.returns

@@ -21,21 +21,21 @@ with_mode-requires c =
 pub returns-in-Identity : goal.returns-in-Identity
 unfolding svids_noted numbers_noted
 returns-in-Identity c =
-    noted_as c.args.self c.args.whole.length _ _ _ (Identity _) c.in-Identity.is _ _ _ c.identified.ensures refl refl
+    noted_as c.args.self c.args.length _ _ _ (Identity _) c.in-Identity.is _ _ _ c.identified.ensures refl refl
 
 pub returns-in-Svid : goal.returns-in-Svid
 unfolding svids_noted numbers_noted
 returns-in-Svid c =
     let done = c.listed.ensures in
-    noted_as c.args.self c.args.whole.length _ _ _ (Svid _) c.in-Svid.is _ _ _ done.0 done.1 done.2
+    noted_as c.args.self c.args.length _ _ _ (Svid _) c.in-Svid.is _ _ _ done.0 done.1 done.2
 
 pub returns-in-Mode : goal.returns-in-Mode
 unfolding svids_noted numbers_noted
 returns-in-Mode c =
     let done = c.with_mode.ensures in
-    noted_as c.args.self c.args.whole.length _ _ _ (Mode _) c.in-Mode.is _ _ _ (done.0 _) refl done.1
+    noted_as c.args.self c.args.length _ _ _ (Mode _) c.in-Mode.is _ _ _ (done.0 _) refl done.1
 
 pub returns-in-End : goal.returns-in-End
 unfolding svids_noted numbers_noted
 returns-in-End c =
-    noted_as c.args.self c.args.whole.length _ _ _ End c.in-End.is _ _ _ c.ended.ensures refl refl
+    noted_as c.args.self c.args.length _ _ _ End c.in-End.is _ _ _ c.ended.ensures refl refl

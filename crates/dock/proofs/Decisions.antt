@@ -96,6 +96,9 @@ module _ (d : Dock) (o : Outcome) where
 pub same_itself : (r : Request) → same_request r r ≡ true
 same_itself r = grind arith
 
+not_same : (a r : Request) → (a ≡ r → ⊥) → same_request a r ≡ false
+not_same a r k = grind arith
+
 pub empty_none : (l : List ℕ) → length l ≡ 0 → is_empty l ≡ true
 empty_none [] h = refl
 empty_none (x ∷ l) h = absurd (omega arith)
@@ -183,12 +186,17 @@ module _ (d : Dock) (r : Request) where
         answer_policy y p ep =
             ap (λ (x : Standing). decide_policy_answer d x policy r objects) e ∙ rw y (ap (λ (x : Policy). decide_policy d x r objects) ep)
 
-pub answer_standing : (d : Dock) (r : Request) (objects : List ℕ) (policy : Policy) (s : Standing) → ((a : Request) → s ≡ Asking a → ⊥) →
+-- whatever the standing is, but for that request
+pub answer_unasked : (d : Dock) (r : Request) (objects : List ℕ) (policy : Policy) (s : Standing) → (s ≡ Asking r → ⊥) →
     decide_policy_answer d s policy r objects ≡ refuses 9
 unfolding decide_policy_answer
-answer_standing d r objects policy Ready k = refl
-answer_standing d r objects policy (Asking a) k = absurd (k a refl)
-answer_standing d r objects policy (Sending is_page) k = refl
+answer_unasked d r objects policy Ready k = refl
+answer_unasked d r objects policy (Asking a) k = answer_other d r objects policy (Asking a) a refl (not_same a r (λ e. k (ap Asking e)))
+answer_unasked d r objects policy (Sending is_page) k = refl
+
+pub answer_standing : (d : Dock) (r : Request) (objects : List ℕ) (policy : Policy) (s : Standing) → ((a : Request) → s ≡ Asking a → ⊥) →
+    decide_policy_answer d s policy r objects ≡ refuses 9
+answer_standing d r objects policy s k = answer_unasked d r objects policy s (k r)
 
 -- "sent" and "failed"
 module _ (d : Dock) where

@@ -5,8 +5,8 @@ use mathlib.Core.List.{List, [], ◌∷◌}
 use Prim.Native.Nat.{ℕ, suc, ◌+◌, ◌-◌, ◌<◌, ◌≤◌}
 use native.Mathlib.Omega.{arith}
 use lib.Dec.{leb, ltb, eqb}
-use lib.ListN.{length, get_or, take, drop, drop_of_length-le}
-use borrow.Author.Tests.{ltb-false, eq-eqb, le-leb, leb-true}
+use lib.ListN.{length, get_or, take, drop, drop_of_length-le, length-drop}
+use borrow.Author.Tests.{leb-false, ltb-false, eq-eqb, le-leb, leb-true}
 use Rattle.laws.proofs.Lines.{and_left}
 use Rattle.pages.specs.Lists.{is_in}
 use Rattle.pages.specs.Pages.{read_off}
@@ -31,7 +31,7 @@ same_length (x ∷ a) (y ∷ b) h = go (eqb x y) (same_length a b (λ e. h (ap s
     go true e = e
     go false e = refl
 
-pointwise_same : (a b : List ℕ) → pointwise nat_eq a b ≡ same_list a b
+pub pointwise_same : (a b : List ℕ) → pointwise nat_eq a b ≡ same_list a b
 unfolding same_list
 pointwise_same [] [] = refl
 pointwise_same [] (y ∷ b) = refl
@@ -104,6 +104,27 @@ module _ (l v : List ℕ) where
   unfolding is_repeat
   repeat_same h = simp (le-leb _ _ h)
 
+  -- a page repeats the last one where it has twelve values and the list ends with them
+  pub repeat_is : length v ≡ 12 → ends_with nat_eq l v ≡ is_repeat l v
+  unfolding is_repeat
+  repeat_is e = rw (e, pointwise_same v (drop (length l - 12) l), same_either_way (drop (length l - 12) l) v) (go (leb 12 (length l)) refl)
+    where
+      go : (t : Bool) → leb 12 (length l) ≡ t → same_list (drop (length l - 12) l) v ≡ (t && same_list (drop (length l - 12) l) v)
+      go true h = refl
+      go false h =
+          let few : length l < 12 = leb-false _ _ h in
+          sym (same_length (drop (length l - 12) l) v (λ z. omega (arith, length-drop (length l - 12) l)))
+
+  pub repeat_not : (length v ≡ 12 → ⊥) → is_repeat l v ≡ false
+  unfolding is_repeat
+  repeat_not e = go (leb 12 (length l)) refl
+    where
+      go : (t : Bool) → leb 12 (length l) ≡ t → (t && same_list (drop (length l - 12) l) v) ≡ false
+      go true h =
+          let many : 12 ≤ length l = leb-true _ _ h in
+          sym (same_length (drop (length l - 12) l) v (λ z. e (omega (arith, length-drop (length l - 12) l))))
+      go false h = refl
+
   pub adds_new : length l ≤ 72 → length v ≤ 72 - length l → all_new l v ≡ adds l v
   unfolding adds
   adds_new f h = let fits : length l + length v ≤ 72 = omega arith in simp (le-leb _ _ fits)
@@ -159,3 +180,6 @@ part_size v n e = ap length (read_part v n e) ∙ sym e
 
 -- what `judge_ending` needs
 pub ruleset ending_steps = (read_part, part_size, before_most, adds_fits, nat_tests)
+
+-- and what a body needs that tests the end of the list
+pub ruleset repeat_steps = (repeat_is, repeat_not, nat_tests)
